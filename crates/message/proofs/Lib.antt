@@ -1,0 +1,5 @@
+pub mod NoVariable
+pub mod OneReading
+pub mod Padding
+pub mod Reading
+pub mod Whole

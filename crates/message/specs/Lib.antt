@@ -1,0 +1,5 @@
+pub mod Bytes
+pub mod Forms
+pub mod Messages
+pub mod Stops
+pub mod Trees

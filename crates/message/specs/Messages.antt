@@ -1,0 +1,8 @@
+-- The bytes that a message stands for.
+use mathlib.Core.List.{List}
+use Prim.Native.Nat.{ℕ}
+use Rattle.message.specs.declared.closed.Message.{Message}
+use Rattle.message.specs.Forms.{text}
+
+abbrev pub messageText : Message → List ℕ
+messageText m = text (m .form)

@@ -1,0 +1,6 @@
+// Messages of a lift's shared line: atoms and their kinds, forms and messages, filling, and the list of stops.
+pub mod closed;
+pub mod form;
+pub mod kind;
+pub mod reader;
+pub mod stop;
