@@ -1,0 +1,9 @@
+pub mod Answering
+pub mod Bitset
+pub mod Known
+pub mod Standing
+pub mod Growing
+pub mod Closing
+pub mod Rounds
+pub mod Hearing
+pub mod Deciding

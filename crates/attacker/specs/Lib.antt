@@ -1,0 +1,5 @@
+pub mod Atoms
+pub mod Calls
+pub mod Derivation
+pub mod Laws
+pub mod Texts

@@ -1,0 +1,37 @@
+// A set of atoms, a bit for each.
+ghost use Prim.Native.Nat.{ℕ, _≤_, _<_};
+ghost use mathlib.Core.Bool.{false, _||_};
+ghost use mathlib.Core.Path.{_≡_};
+ghost use lib.Dec.{eqb};
+ghost use Rattle.attacker.specs.Atoms.{within};
+
+#[derive(Clone, Copy, PartialEq, Eq)]
+pub struct Atoms {
+    bits: u128,
+}
+
+impl Atoms {
+    // No atom.
+    pub fn none() -> Atoms
+        ensures { λ r. ⌜ ((b : ℕ) → within r b ≡ false) ⌝ }
+    {
+        Atoms { bits: 0 }
+    }
+
+    // Whether the atom is in the set. A byte that is no atom never is.
+    pub fn has(self, atom: u8) -> bool
+        ensures { λ r. ⌜ r ≡ within self atom ⌝ }
+    {
+        atom < 128 && self.bits >> atom & 1 == 1
+    }
+
+    // Puts the atom into the set; a byte above 127 changes nothing.
+    pub fn add(&mut self, atom: u8)
+        ensures members { λ _. ⌜ ((b : ℕ) → b < 128 → within (now (self .exit)) b ≡ (within (now (self .entry)) b || eqb b atom)) ⌝ }
+        ensures grows { λ _. ⌜ now (self .entry) .bits ≤ now (self .exit) .bits ⌝ }
+    {
+        if atom < 128 {
+            self.bits |= 1 << atom;
+        }
+    }
+}

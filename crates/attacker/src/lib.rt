@@ -1,0 +1,47 @@
+// Attackers on the shared line: what they have heard, and what they can make of it.
+ghost use Prim.Native.Nat.{ℕ};
+ghost use mathlib.Core.Bool.{Bool};
+ghost use mathlib.Core.List.{List};
+ghost use mathlib.Core.Path.{_≡_};
+ghost use lib.ListN.{length, take};
+ghost use Rattle.attacker.specs.Calls.{hearAnswer, heardAfter, askAnswer, backAnswer};
+ghost use Rattle.attacker.specs.Laws.{Monotone, Own};
+use message::stop::Stop;
+
+pub mod among;
+pub mod atoms;
+pub mod repeater;
+
+// An attacker is the list of messages that it has heard, the oldest first, and the relation "can make" between such
+// lists and messages. No call changes the relation, and a refused call leaves the list.
+pub trait Attacker {
+    ghost heard: { Self → List (List ℕ) };
+
+    ghost makes: { Self → List (List ℕ) → List ℕ → Bool };
+
+    // What can be made from a list can be made from every list that has all its messages.
+    law monotone: { (a : Self) → Monotone (makes a) };
+
+    // Each message of a list can be made from it.
+    law own: { (a : Self) → Own (makes a) };
+
+    // How many messages it has heard.
+    fn count(&self) -> usize
+        ensures value { λ r. ⌜ r ≡ length (heard (now (self .entry))) ⌝ };
+
+    // Puts a message at the end of the list.
+    fn hear(&mut self, message: &[u8]) -> Result<(), Stop>
+        ensures answer { λ r. ⌜ r ≡ hearAnswer (heard (now (self .entry))) (now (message .entry)) ⌝ }
+        ensures list { λ _. ⌜ heard (now (self .exit)) ≡ heardAfter (heard (now (self .entry))) (now (message .entry)) ⌝ }
+        ensures relation { λ _. ⌜ makes (now (self .exit)) ≡ makes (now (self .entry)) ⌝ };
+
+    // Whether it can make the message.
+    fn ask(&self, message: &[u8]) -> Result<bool, Stop>
+        ensures answer { λ r. ⌜ r ≡ askAnswer (makes (now (self .entry))) (heard (now (self .entry))) (now (message .entry)) ⌝ };
+
+    // Keeps the first `n` messages of the list.
+    fn fall_back(&mut self, n: usize) -> Result<(), Stop>
+        ensures answer { λ r. ⌜ r ≡ backAnswer (heard (now (self .entry))) n ⌝ }
+        ensures list { λ _. ⌜ heard (now (self .exit)) ≡ take n (heard (now (self .entry))) ⌝ }
+        ensures relation { λ _. ⌜ makes (now (self .exit)) ≡ makes (now (self .entry)) ⌝ };
+}

@@ -1,0 +1,13 @@
+// The repeater: it makes exactly what it has heard whole.
+ghost use Prim.Native.Nat.{_≤_};
+ghost use Rattle.std.specs.Of.Vec.{vec-len, vec-cap};
+use message::closed::Message;
+
+pub mod calls;
+
+#[derive(Drop)]
+pub struct Repeater {
+    messages: Vec<Message>,
+    ghost room: { 128 ≤ vec-cap messages },
+    ghost few: { vec-len messages ≤ 128 },
+}
