@@ -53,29 +53,41 @@ or-false true = refl
 or-false false = refl
 
 -- putting atom a into the set
-bit-added : (n a b : ℕ) → eqb (bit (bitOr n (2 ^ a)) b) 1 ≡ (eqb (bit n b) 1 || eqb b a)
+bit-added : (n a b : ℕ) → eqb (bit (bitOr n (2 ^ a)) b) 1 ≡ (eqb (bit n b) 1 || eqb a b)
 bit-added n a b = ⊎-elim here there (cases-eq b a)
   where
-    here : b ≡ a → eqb (bit (bitOr n (2 ^ a)) b) 1 ≡ (eqb (bit n b) 1 || eqb b a)
+    here : b ≡ a → eqb (bit (bitOr n (2 ^ a)) b) 1 ≡ (eqb (bit n b) 1 || eqb a b)
     here e =
         ap (λ x. eqb x 1) (bit-or n (2 ^ a) b ∙ ap (λ x. bitOr (bit n b) (bit (2 ^ a) x)) e ∙ ap (bitOr (bit n b)) (bit-same a))
         ∙ or-one (bit n b) (mod-below (n / 2 ^ b) 2 (omega arith))
         ∙ or-true (eqb (bit n b) 1)
-        ∙ ap (λ x. eqb (bit n b) 1 || x) (sym (eq-eqb b a e))
+        ∙ ap (λ x. eqb (bit n b) 1 || x) (sym (eq-eqb a b (sym e)))
 
-    there : (b ≡ a → ⊥) → eqb (bit (bitOr n (2 ^ a)) b) 1 ≡ (eqb (bit n b) 1 || eqb b a)
+    there : (b ≡ a → ⊥) → eqb (bit (bitOr n (2 ^ a)) b) 1 ≡ (eqb (bit n b) 1 || eqb a b)
     there ne =
         ap (λ x. eqb x 1) (bit-or n (2 ^ a) b ∙ ap (bitOr (bit n b)) (bit-other a b ne) ∙ or-zero-r (bit n b))
         ∙ or-false (eqb (bit n b) 1)
-        ∙ ap (λ x. eqb (bit n b) 1 || x) (sym (ne-eqb b a ne))
+        ∙ ap (λ x. eqb (bit n b) 1 || x) (sym (ne-eqb a b (λ e. ne (sym e))))
 
-pub within-added : (s t : Atoms) (a : ℕ) → t .bits ≡ bitOr (s .bits) (2 ^ a) → (b : ℕ) → b < 128 → within t b ≡ (within s b || eqb b a)
+pub within-added : (s t : Atoms) (a : ℕ) → a < 128 → t .bits ≡ bitOr (s .bits) (2 ^ a) → (b : ℕ) → within t b ≡ (within s b || (ltb a 128 && eqb a b))
 unfolding within
-within-added s t a is b h =
-    ap (λ c. c && eqb (bit (t .bits) b) 1) (lt-ltb b 128 h)
-    ∙ ap (λ n. eqb (bit n b) 1) is
-    ∙ bit-added (s .bits) a b
-    ∙ ap (λ c. (c && eqb (bit (s .bits) b) 1) || eqb b a) (sym (lt-ltb b 128 h))
+within-added s t a small is b = ⊎-elim below above (cases-lt b 128) ∙ ap (λ c. within s b || (c && eqb a b)) (sym (lt-ltb a 128 small))
+  where
+    below : b < 128 → within t b ≡ (within s b || eqb a b)
+    below h =
+        ap (λ c. c && eqb (bit (t .bits) b) 1) (lt-ltb b 128 h)
+        ∙ ap (λ n. eqb (bit n b) 1) is
+        ∙ bit-added (s .bits) a b
+        ∙ ap (λ c. (c && eqb (bit (s .bits) b) 1) || eqb a b) (sym (lt-ltb b 128 h))
+
+    above : 128 ≤ b → within t b ≡ (within s b || eqb a b)
+    above h =
+        ap (λ c. c && eqb (bit (t .bits) b) 1) (le-ltb b 128 h)
+        ∙ sym (ne-eqb a b (λ e. omega arith))
+        ∙ ap (λ c. (c && eqb (bit (s .bits) b) 1) || eqb a b) (sym (le-ltb b 128 h))
+
+pub within-kept : (s : Atoms) (a : ℕ) → 128 ≤ a → (b : ℕ) → within s b ≡ (within s b || (ltb a 128 && eqb a b))
+within-kept s a h b = or-false (within s b) ∙ ap (λ c. within s b || (c && eqb a b)) (sym (le-ltb a 128 h))
 
 -- the number only grows
 pub or-grows : (m n : ℕ) → m ≤ bitOr m n

@@ -10,7 +10,7 @@ use Rattle.std.specs.Options.{isSome}
 use Rattle.message.specs.Trees.{Tree, messageOf}
 use Rattle.attacker.specs.Laws.{Within, Monotone, Own}
 use Rattle.attacker.specs.Derivation.{Derivable, heard-whole, pairing, left-half, right-half, encryption, decryption, CanMake, builds, stands, knownParts, derives, Decides}
-use Rattle.attacker.proofs.Known.{builds-sound, builds-complete}
+use Rattle.attacker.proofs.Building.{builds-sound, builds-complete}
 use Rattle.attacker.proofs.Hearing.{known-parts}
 
 -- what the decision allows the rules derive

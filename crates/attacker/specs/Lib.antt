@@ -1,5 +1,6 @@
 pub mod Atoms
 pub mod Calls
 pub mod Derivation
+pub mod Known
 pub mod Laws
 pub mod Texts

@@ -1,8 +1,8 @@
 // A set of atoms, a bit for each.
-ghost use Prim.Native.Nat.{ℕ, _≤_, _<_};
-ghost use mathlib.Core.Bool.{false, _||_};
+ghost use Prim.Native.Nat.{ℕ, _≤_};
+ghost use mathlib.Core.Bool.{false, _&&_, _||_};
 ghost use mathlib.Core.Path.{_≡_};
-ghost use lib.Dec.{eqb};
+ghost use lib.Dec.{eqb, ltb};
 ghost use Rattle.attacker.specs.Atoms.{within};
 
 #[derive(Clone, Copy, PartialEq, Eq)]
@@ -27,7 +27,7 @@ impl Atoms {
 
     // Puts the atom into the set; a byte above 127 changes nothing.
     pub fn add(&mut self, atom: u8)
-        ensures members { λ _. ⌜ ((b : ℕ) → b < 128 → within (now (self .exit)) b ≡ (within (now (self .entry)) b || eqb b atom)) ⌝ }
+        ensures members { λ _. ⌜ ((b : ℕ) → within (now (self .exit)) b ≡ (within (now (self .entry)) b || (ltb atom 128 && eqb atom b))) ⌝ }
         ensures grows { λ _. ⌜ now (self .entry) .bits ≤ now (self .exit) .bits ⌝ }
     {
         if atom < 128 {

@@ -10,6 +10,7 @@ use message::stop::Stop;
 
 pub mod among;
 pub mod atoms;
+pub mod known;
 pub mod repeater;
 
 // An attacker is the list of messages that it has heard, the oldest first, and the relation "can make" between such
