@@ -16,7 +16,7 @@ use Rattle.std.proofs.shelf.Tests.{cases-lt}
 use Rattle.message.specs.declared.kind.Kind.{Kind}
 use Rattle.message.specs.declared.kind.Symbol.{Symbol}
 use Rattle.message.specs.declared.kind.Symbol.the-variants.{Atom, Variable, Join, Lock, Unused}
-use Rattle.message.specs.Bytes.{symbol, isAtom, isVariable, isLocking, standsForAtom, standsForVariable}
+use Rattle.message.specs.Bytes.{symbol, isAtom, isVariable, isLocking, standsForAtom, standsForVariable, canLock}
 use Rattle.message.specs.Trees.{Tree, atom, variable, joined, locked, proper, write, size, reads, formOf, closed, messageOf, isMessage, Fits}
 use Rattle.message.proofs.NoVariable.{closed-on}
 use Rattle.message.proofs.OneReading.{form-write, reads-write, size-write}
@@ -87,26 +87,40 @@ atom-first : (a : ℕ) (bs : List ℕ) → Closed-form (atom a) → write (atom 
 unfolding isAtom
 atom-first a bs form is = ap (λ l. standsForAtom (symbol (getD l 0 0))) (sym is) ∙ form .fits .sound
 
-no-variable : {A : Type 0} (v : ℕ) → Closed-form (variable v) → A
+pub no-variable : {A : Type 0} (v : ℕ) → Closed-form (variable v) → A
 no-variable v form = absurd (clash (sym (closed-first v [] (form .fixed) .0) ∙ form .fits .sound))
+
+-- going on in the list of bytes: past those below n, and at a sign that fails the test anyway
+past : (test : Symbol → Bool) (a n : ℕ) (x y : Symbol) → n ≤ a → test y ≡ false → test (cond (ltb a n) x y) ≡ false
+past test a n x y h e = ap (λ c. test (cond c x y)) (le-ltb a n h) ∙ e
+
+fails : (test : Symbol → Bool) (c : Bool) (x y : Symbol) → test x ≡ false → test y ≡ false → test (cond c x y) ≡ false
+fails test true x y e f = e
+fails test false x y e f = f
 
 -- an atom is below 128
 high-byte : (a : ℕ) → 112 ≤ a → standsForAtom (symbol a) ≡ false
 high-byte a h =
-    past 0x20 _ _ (omega arith) (past 0x40 _ _ (omega arith) (past 0x50 _ _ (omega arith) (past 0x60 _ _ (omega arith) (past 0x70 _ _ (omega arith)
-    (none (ltb a 0x80) _ _ refl (none (ltb a 0x90) _ _ refl (none (ltb a 0xA0) _ _ refl (none (ltb a 0xB0) _ _ refl (none (ltb a 0xC0) _ _ refl
-    (none (ltb a 0xD0) _ _ refl (none (eqb a 0xF0) _ _ refl (none (eqb a 0xF1) _ _ refl refl))))))))))))
-  where
-    past : (n : ℕ) (x y : Symbol) → n ≤ a → standsForAtom y ≡ false → standsForAtom (cond (ltb a n) x y) ≡ false
-    past n x y h e = ap (λ c. standsForAtom (cond c x y)) (le-ltb a n h) ∙ e
+    past standsForAtom a 0x20 _ _ (omega arith) (past standsForAtom a 0x40 _ _ (omega arith) (past standsForAtom a 0x50 _ _ (omega arith) (past standsForAtom a 0x60 _ _ (omega arith)
+    (past standsForAtom a 0x70 _ _ (omega arith) (fails standsForAtom (ltb a 0x80) _ _ refl (fails standsForAtom (ltb a 0x90) _ _ refl (fails standsForAtom (ltb a 0xA0) _ _ refl
+    (fails standsForAtom (ltb a 0xB0) _ _ refl (fails standsForAtom (ltb a 0xC0) _ _ refl (fails standsForAtom (ltb a 0xD0) _ _ refl (fails standsForAtom (eqb a 0xF0) _ _ refl
+    (fails standsForAtom (eqb a 0xF1) _ _ refl refl))))))))))))
 
-    none : (c : Bool) (x y : Symbol) → standsForAtom x ≡ false → standsForAtom y ≡ false → standsForAtom (cond c x y) ≡ false
-    none true x y e f = e
-    none false x y e f = f
-
-atom-small : (a : ℕ) → isAtom a ≡ true → a < 128
+pub atom-small : (a : ℕ) → isAtom a ≡ true → a < 128
 unfolding isAtom
 atom-small a e = ⊎-elim (λ h. omega arith) (λ h. absurd (clash (sym (high-byte a h) ∙ e))) (cases-lt a 112)
+
+-- what may lock is below the two signs
+highest-byte : (a : ℕ) → 0xD0 ≤ a → canLock (symbol a) ≡ false
+highest-byte a h =
+    past canLock a 0x20 _ _ (omega arith) (past canLock a 0x40 _ _ (omega arith) (past canLock a 0x50 _ _ (omega arith) (past canLock a 0x60 _ _ (omega arith)
+    (past canLock a 0x70 _ _ (omega arith) (past canLock a 0x80 _ _ (omega arith) (past canLock a 0x90 _ _ (omega arith) (past canLock a 0xA0 _ _ (omega arith)
+    (past canLock a 0xB0 _ _ (omega arith) (past canLock a 0xC0 _ _ (omega arith) (past canLock a 0xD0 _ _ (omega arith) (fails canLock (eqb a 0xF0) _ _ refl
+    (fails canLock (eqb a 0xF1) _ _ refl refl))))))))))))
+
+pub locking-small : (a : ℕ) → isLocking a ≡ true → a < 0xF0
+unfolding isLocking
+locking-small a e = ⊎-elim (λ h. omega arith) (λ h. absurd (clash (sym (highest-byte a h) ∙ e))) (cases-lt a 0xD0)
 
 or-false : (c : Bool) → c ≡ (c || false)
 or-false true = refl

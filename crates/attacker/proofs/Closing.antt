@@ -13,25 +13,25 @@ use Rattle.attacker.specs.Derivation.{Derivable, left-half, right-half, decryp
 use Rattle.attacker.proofs.Standing.{stands-first, stands-later, stands-cases, stands-before, stands-behind, stands-either}
 
 -- what comes out of a message in one step: the halves of a joined one, and what a lock holds that opens
-abbrev pub Inside : (Tree → Bool) → Tree → Tree → Type 0
-Inside known (atom b) q = ⊥
-Inside known (variable b) q = ⊥
-Inside known (joined x y) q = (x ≡ q) ⊎ (y ≡ q)
-Inside known (locked k x) q = (opens known k ≡ true) × (x ≡ q)
+abbrev pub ComesOut : (Tree → Bool) → Tree → Tree → Type 0
+ComesOut known (atom b) q = ⊥
+ComesOut known (variable b) q = ⊥
+ComesOut known (joined x y) q = (x ≡ q) ⊎ (y ≡ q)
+ComesOut known (locked k x) q = (opens known k ≡ true) × (x ≡ q)
 
 -- what comes out of a standing message stands too
 abbrev pub Closed : (Tree → Bool) → List Tree → Type 0
-Closed known xs = (p q : Tree) → Inside known p q → stands xs p ≡ true → stands xs q ≡ true
+Closed known xs = (p q : Tree) → ComesOut known p q → stands xs p ≡ true → stands xs q ≡ true
 
 -- the empty list is closed
 closed-none : (known : Tree → Bool) → Closed known []
 closed-none known p q i h = absurd (false≢true h)
 
 -- one more message, before a closed list that has what comes out of it
-closed-cons : (known : Tree → Bool) (t : Tree) (xs : List Tree) → ((q : Tree) → Inside known t q → stands xs q ≡ true) → Closed known xs → Closed known (t ∷ xs)
+closed-cons : (known : Tree → Bool) (t : Tree) (xs : List Tree) → ((q : Tree) → ComesOut known t q → stands xs q ≡ true) → Closed known xs → Closed known (t ∷ xs)
 closed-cons known t xs inner c p q i h =
     elim (stands-cases t xs p h) [
-      | inl e ↦ stands-later t xs q (inner q (subst (λ (u : Tree). Inside known u q) (sym e) i))
+      | inl e ↦ stands-later t xs q (inner q (subst (λ (u : Tree). ComesOut known u q) (sym e) i))
       | inr e ↦ stands-later t xs q (c p q i e)
     ]
 

@@ -9,3 +9,8 @@ pub mod Rounds
 pub mod Hearing
 pub mod Deciding
 pub mod Signs
+pub mod Kept
+pub mod Stepping
+pub mod Weighing
+pub mod Scanning
+pub mod Learning

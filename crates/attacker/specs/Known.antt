@@ -2,14 +2,16 @@
 -- the joined and locked parts that do.
 use mathlib.Core.Path.{_≡_}
 use mathlib.Core.List.{List, [], _∷_, _++_}
-use mathlib.Core.Bool.{Bool, true, false, cond, _&&_, _||_}
+use mathlib.Core.Bool.{Bool, true, false, cond, not, _&&_, _||_}
 use Prim.Native.Nat.{ℕ, _+_}
-use lib.Dec.{eqb}
+use lib.Dec.{eqb, leb}
 use lib.ListN.{length}
-use Rattle.message.specs.Trees.{Tree, atom, variable, joined, locked, proper, write, closed, Fits}
+use Rattle.std.specs.declared.option.Option.the-variants.{Some}
+use Rattle.message.specs.Bytes.{inverseOf}
+use Rattle.message.specs.Trees.{Tree, atom, variable, joined, locked, proper, write, size, closed, messageOf, Fits}
 use Rattle.attacker.specs.declared.atoms.Atoms.{Atoms}
 use Rattle.attacker.specs.Atoms.{within}
-use Rattle.attacker.specs.Derivation.{opens, parts, stands}
+use Rattle.attacker.specs.Derivation.{Derivable, opens, parts, stands}
 use Rattle.attacker.specs.Laws.{has}
 
 -- an atom that is known, and nothing else
@@ -19,12 +21,16 @@ atomKnown atoms (variable b) = false
 atomKnown atoms (joined x y) = false
 atomKnown atoms (locked k x) = false
 
+-- a form of at most 24 bytes with no variable
+abbrev pub fitting : Tree → Bool
+fitting t = proper t && (leb (size t) 24 && closed (write t))
+
 -- an atom of the set, or a part whose text is kept
 abbrev pub knownBy : Atoms → List (List ℕ) → Tree → Bool
 knownBy atoms kept (atom b) = within atoms b
 knownBy atoms kept (variable b) = false
-knownBy atoms kept (joined x y) = proper (joined x y) && has kept (write (joined x y))
-knownBy atoms kept (locked k x) = proper (locked k x) && has kept (write (locked k x))
+knownBy atoms kept (joined x y) = fitting (joined x y) && has kept (write (joined x y))
+knownBy atoms kept (locked k x) = fitting (locked k x) && has kept (write (locked k x))
 
 -- the texts of the joined and locked ones among the trees
 abbrev pub composites : List Tree → List (List ℕ)
@@ -66,3 +72,31 @@ With before ts after = (b : ℕ) → within after b ≡ (within before b || stan
 pub record Absorbs (opened : Atoms) (bs : List ℕ) (kept kept′ : List (List ℕ)) (atoms atoms′ : Atoms) : Type 0 where
   pub keeps : (t : Tree) → Closed-form t → write t ≡ bs → kept′ ≡ kept ++ composites (parts (atomKnown opened) t)
   pub learns : (t : Tree) → Closed-form t → write t ≡ bs → With atoms (parts (atomKnown opened) t) atoms′
+
+-- the locks of the list that an opened atom opens are open: what they lock is known
+abbrev pub Open : Atoms → List (List ℕ) → (Tree → Bool) → Type 0
+Open opened locks known = (k j : ℕ) (x : Tree) → Closed-form (locked k x) → has locks (write (locked k x)) ≡ true → inverseOf k ≡ Some j → within opened j ≡ true → known x ≡ true
+
+-- one set of atoms has all of another
+abbrev pub Inside : Atoms → Atoms → Type 0
+Inside fewer more = (b : ℕ) → within fewer b ≡ true → within more b ≡ true
+
+-- what is known is justified by the rules, has what was heard, and is closed under parting
+pub record Parted (heard : List (List ℕ)) (known : Tree → Bool) : Type 0 where
+  pub justified : (t : Tree) → known t ≡ true → Derivable heard t
+  pub hears : (m : List ℕ) (t : Tree) → has heard m ≡ true → messageOf m ≡ Some t → known t ≡ true
+  pub parts-left : (x y : Tree) → known (joined x y) ≡ true → known x ≡ true
+  pub parts-right : (x y : Tree) → known (joined x y) ≡ true → known y ≡ true
+
+-- a lock that the wider set opens and the other does not
+abbrev pub opensNow : Atoms → Atoms → List ℕ → Bool
+opensNow opened wider [] = false
+opensNow opened wider (b ∷ []) = false
+opensNow opened wider (b ∷ k ∷ bs) = eqb b 0xF1 && (opens (atomKnown wider) k && not (opens (atomKnown opened) k))
+
+-- Opening the locks that the wider set opens: the parts kept before stand first, and what was parted and open before is
+-- parted now and open to the wider set.
+pub record Opens (opened wider : Atoms) (kept kept′ : List (List ℕ)) (atoms atoms′ : Atoms) : Type 0 where
+  pub fresh : List (List ℕ)
+  pub after : kept′ ≡ kept ++ fresh
+  pub knows : (heard : List (List ℕ)) → Parted heard (knownBy atoms kept) → Open opened kept (knownBy atoms kept) → Inside wider atoms → Parted heard (knownBy atoms′ kept′) × Open wider kept′ (knownBy atoms′ kept′)
