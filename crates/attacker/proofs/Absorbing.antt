@@ -2,8 +2,8 @@
 use mathlib.Core.Path.{_≡_, refl, sym, ap, subst, _∙_}
 use mathlib.Core.List.{List, [], _∷_, _++_, append-assoc, append-nil}
 use mathlib.Core.Bool.{Bool, true, false, cond, _&&_, _||_, or-assoc, or-comm}
-use mathlib.Core.Logic.{⊎-elim}
-use Prim.Native.Nat.{ℕ, _+_, _≤_, _<_}
+use mathlib.Core.Logic.{_⊎_, ⊎-elim}
+use Prim.Native.Nat.{ℕ, _+_, _-_, _≤_, _<_}
 use native.Mathlib.Omega.{arith}
 use lib.Dec.{eqb, ltb}
 use lib.ListN.{length, getD, take, drop, length-append}
@@ -28,7 +28,7 @@ use Rattle.attacker.specs.Derivation.{sameTree, stands, opens, parts}
 use Rattle.attacker.specs.Known.{atomKnown, composites, Closed-form, With, Absorbs}
 
 -- no byte of the whole is a variable, so none of a part is
-closed-first : (b : ℕ) (bs : List ℕ) → closed (b ∷ bs) ≡ true → (isVariable b ≡ false) × (closed bs ≡ true)
+pub closed-first : (b : ℕ) (bs : List ℕ) → closed (b ∷ bs) ≡ true → (isVariable b ≡ false) × (closed bs ≡ true)
 closed-first b bs e = go (isVariable b) refl e
   where
     go : (v : Bool) → isVariable b ≡ v → _≡_ {A = Bool} (elim v [ true ↦ false | false ↦ closed bs ]) true → (isVariable b ≡ false) × (closed bs ≡ true)
@@ -126,57 +126,54 @@ or-false : (c : Bool) → c ≡ (c || false)
 or-false true = refl
 or-false false = refl
 
-module _ (opened : Atoms) (bs : List ℕ) (kept : List (List ℕ)) (atoms : Atoms) where
-  -- a form has a first byte
-  pub absorb-nothing : length bs < 1 → Absorbs opened bs kept kept atoms atoms
-  absorb-nothing short = record { keeps = λ t form is. absurd (none t is); learns = λ t form is. absurd (none t is) }
-    where
-      none : (t : Tree) → write t ≡ bs → ⊥
-      none (atom a) is = omega (arith, ap length is)
-      none (variable v) is = omega (arith, ap length is)
-      none (joined x y) is = omega (arith, ap length is)
-      none (locked k x) is = omega (arith, ap length is)
+-- the halves as the code cuts them
+pub left-cut : (bs : List ℕ) (l : ℕ) → take (1 + l - 1) (drop 1 bs) ≡ take l (drop 1 bs)
+left-cut bs l = let same : 1 + l - 1 ≡ l = omega arith in ap (λ n. take n (drop 1 bs)) same
 
-  pub absorb-atom : (atoms′ : Atoms) (k : Kind) → symbol (getD bs 0 0) ≡ Atom k
-      → ((b : ℕ) → within atoms′ b ≡ (within atoms b || (ltb (getD bs 0 0) 128 && eqb (getD bs 0 0) b)))
-      → Absorbs opened bs kept kept atoms atoms′
-  absorb-atom atoms′ k at added = record { keeps = keeps; learns = learns }
-    where
-      keeps : (t : Tree) → Closed-form t → write t ≡ bs → kept ≡ kept ++ composites (parts (atomKnown opened) t)
-      keeps (atom a) form is = sym (append-nil kept)
-      keeps (variable v) form is = no-variable v form
-      keeps (joined x y) form is = let e = join-first x y bs is in let z : _≡_ {A = ℕ} 0 1 = cc in absurd (omega arith)
-      keeps (locked j x) form is = let e = lock-first j x bs is in let z : _≡_ {A = ℕ} 0 1 = cc in absurd (omega arith)
+-- a byte that stands for a variable or for nothing
+pub other-byte : (s : Symbol) → ((k : Kind) × (s ≡ Variable k)) ⊎ (s ≡ Unused) → (standsForAtom s ≡ false) × (s ≡ Join → ⊥) × (s ≡ Lock → ⊥)
+other-byte s is =
+    ⊎-elim
+    (λ v. let e = v .1 in (ap standsForAtom e, λ j. let z : _≡_ {A = ℕ} 0 1 = cc in omega arith, λ l. let z : _≡_ {A = ℕ} 0 1 = cc in omega arith))
+    (λ e. (ap standsForAtom e, λ j. let z : _≡_ {A = ℕ} 0 1 = cc in omega arith, λ l. let z : _≡_ {A = ℕ} 0 1 = cc in omega arith))
+    is
 
-      learns : (t : Tree) → Closed-form t → write t ≡ bs → With atoms (parts (atomKnown opened) t) atoms′
-      learns (atom a) form is b =
-          added b
-          ∙ ap (λ l. within atoms b || (ltb (getD l 0 0) 128 && eqb (getD l 0 0) b)) (sym is)
-          ∙ ap (λ c. within atoms b || (c && eqb a b)) (lt-ltb a 128 (atom-small a (form .fits .sound)))
-          ∙ ap (λ c. within atoms b || c) (or-false (eqb a b))
-      learns (variable v) form is b = no-variable v form
-      learns (joined x y) form is b = let e = join-first x y bs is in let z : _≡_ {A = ℕ} 0 1 = cc in absurd (omega arith)
-      learns (locked j x) form is b = let e = lock-first j x bs is in let z : _≡_ {A = ℕ} 0 1 = cc in absurd (omega arith)
+-- a form with no variable, by its first byte
+module _ (bs : List ℕ) where
+  pub at-atom : (k : Kind) → symbol (getD bs 0 0) ≡ Atom k → (P : Tree → Type 0) → ((a : ℕ) → Closed-form (atom a) → write (atom a) ≡ bs → P (atom a)) → (t : Tree) → Closed-form t → write t ≡ bs → P t
+  at-atom k at P then (atom a) form is = then a form is
+  at-atom k at P then (variable v) form is = no-variable v form
+  at-atom k at P then (joined x y) form is = let e = join-first x y bs is in let z : _≡_ {A = ℕ} 0 1 = cc in absurd (omega arith)
+  at-atom k at P then (locked j x) form is = let e = lock-first j x bs is in let z : _≡_ {A = ℕ} 0 1 = cc in absurd (omega arith)
 
-  -- no closed form begins with a variable or a byte that is not used
-  pub absorb-other : (kept′ : List (List ℕ)) (atoms′ : Atoms) → standsForAtom (symbol (getD bs 0 0)) ≡ false → (symbol (getD bs 0 0) ≡ Join → ⊥) → (symbol (getD bs 0 0) ≡ Lock → ⊥)
-      → Absorbs opened bs kept kept′ atoms atoms′
-  absorb-other kept′ atoms′ at not-join not-lock = record { keeps = λ t form is. absurd (none t form is); learns = λ t form is. absurd (none t form is) }
-    where
-      none : (t : Tree) → Closed-form t → write t ≡ bs → ⊥
-      none (atom a) form is = clash (sym at ∙ atom-first a bs form is)
-      none (variable v) form is = no-variable v form
-      none (joined x y) form is = not-join (sym (join-first x y bs is))
-      none (locked k x) form is = not-lock (sym (lock-first k x bs is))
+  pub at-join : symbol (getD bs 0 0) ≡ Join → (P : Tree → Type 0) → ((x y : Tree) → Closed-form (joined x y) → write (joined x y) ≡ bs → P (joined x y)) → (t : Tree) → Closed-form t → write t ≡ bs → P t
+  at-join at P then (atom a) form is = absurd (clash (ap standsForAtom (sym at) ∙ atom-first a bs form is))
+  at-join at P then (variable v) form is = no-variable v form
+  at-join at P then (joined x y) form is = then x y form is
+  at-join at P then (locked k x) form is = let e = lock-first k x bs is in let z : _≡_ {A = ℕ} 0 1 = cc in absurd (omega arith)
 
--- what is kept of a joined form: itself, then what comes out of its halves
-module _ (opened : Atoms) (bs : List ℕ) (kept kept₁ : List (List ℕ)) (atoms : Atoms) (keeping : isMessage bs ≡ true → kept₁ ≡ kept ++ bs ∷ []) where
-  -- the form itself was kept
-  kept-whole : (t : Tree) → Closed-form t → write t ≡ bs → kept₁ ≡ kept ++ write t ∷ []
-  kept-whole t form is = keeping (ap isMessage (sym is) ∙ ap isSome (message-write t form)) ∙ ap (λ l. kept ++ l ∷ []) (sym is)
+  pub at-lock : symbol (getD bs 0 0) ≡ Lock → (P : Tree → Type 0) → ((k : ℕ) (x : Tree) → Closed-form (locked k x) → write (locked k x) ≡ bs → P (locked k x)) → (t : Tree) → Closed-form t → write t ≡ bs → P t
+  at-lock at P then (atom a) form is = absurd (clash (ap standsForAtom (sym at) ∙ atom-first a bs form is))
+  at-lock at P then (variable v) form is = no-variable v form
+  at-lock at P then (joined x y) form is = let e = join-first x y bs is in let z : _≡_ {A = ℕ} 0 1 = cc in absurd (omega arith)
+  at-lock at P then (locked k x) form is = then k x form is
 
-  -- where the left half ends
-  left-size : (x y : Tree) → Closed-form (joined x y) → write (joined x y) ≡ bs → (r : Option ℕ) → Says (drop 1 bs) r → r ≡ Some (size x)
+  -- none begins with a variable or with a byte that is not used
+  pub at-none : standsForAtom (symbol (getD bs 0 0)) ≡ false → (symbol (getD bs 0 0) ≡ Join → ⊥) → (symbol (getD bs 0 0) ≡ Lock → ⊥) → (t : Tree) → Closed-form t → write t ≡ bs → ⊥
+  at-none at not-join not-lock (atom a) form is = clash (sym at ∙ atom-first a bs form is)
+  at-none at not-join not-lock (variable v) form is = no-variable v form
+  at-none at not-join not-lock (joined x y) form is = not-join (sym (join-first x y bs is))
+  at-none at not-join not-lock (locked k x) form is = not-lock (sym (lock-first k x bs is))
+
+  -- none is empty
+  pub at-end : length bs < 1 → (t : Tree) → write t ≡ bs → ⊥
+  at-end short (atom a) is = omega (arith, ap length is)
+  at-end short (variable v) is = omega (arith, ap length is)
+  at-end short (joined x y) is = omega (arith, ap length is)
+  at-end short (locked k x) is = omega (arith, ap length is)
+
+  -- the left half of a joined form is what the reader reads after the first byte
+  pub left-size : (x y : Tree) → Closed-form (joined x y) → write (joined x y) ≡ bs → (r : Option ℕ) → Says (drop 1 bs) r → r ≡ Some (size x)
   left-size x y form is r says =
       let rest : drop 1 bs ≡ write x ++ write y = ap (drop 1) (sym is) in
       let long : length (drop 1 bs) ≡ size x + size y = ap length rest ∙ length-append (write x) (write y) ∙ (λ i. size-write x i + size-write y i) in
@@ -184,62 +181,87 @@ module _ (opened : Atoms) (bs : List ℕ) (kept kept₁ : List (List ℕ)) (atom
       ∙ ap (λ l. mapped size (reads (length (drop 1 bs)) l)) rest
       ∙ ap (mapped size) (reads-write x (left-form form .fits .sound) (length (drop 1 bs)) (write y) (omega arith))
 
+  pub halves : (x y : Tree) → Closed-form (joined x y) → write (joined x y) ≡ bs → (l : ℕ) → Says (drop 1 bs) (Some l) → (write x ≡ take l (drop 1 bs)) × (write y ≡ drop (1 + l) bs)
+  halves x y form is l says =
+      let same = left-size x y form is (Some l) says in
+      let n : length (write x) ≡ l = size-write x ∙ (cc) in
+      (
+        sym (ap (take l) (ap (drop 1) (sym is)) ∙ take-at (write x) (write y) l n),
+        sym (sym (drop-drop l 1 bs) ∙ ap (drop l) (ap (drop 1) (sym is)) ∙ drop-at (write x) (write y) l n),
+      )
+
+module _ (opened : Atoms) (bs : List ℕ) (kept : List (List ℕ)) (atoms : Atoms) where
+  pub absorb-nothing : length bs < 1 → Absorbs opened bs kept kept atoms atoms
+  absorb-nothing short = record { keeps = λ t form is. absurd (at-end bs short t is); learns = λ t form is. absurd (at-end bs short t is) }
+
+  pub absorb-atom : (atoms′ : Atoms) (k : Kind) → symbol (getD bs 0 0) ≡ Atom k
+      → ((b : ℕ) → within atoms′ b ≡ (within atoms b || (ltb (getD bs 0 0) 128 && eqb (getD bs 0 0) b)))
+      → Absorbs opened bs kept kept atoms atoms′
+  absorb-atom atoms′ k at added = record {
+    keeps = at-atom bs k at (λ t. kept ≡ kept ++ composites (parts (atomKnown opened) t)) (λ a form is. sym (append-nil kept));
+    learns = at-atom bs k at (λ t. With atoms (parts (atomKnown opened) t) atoms′) learns;
+  }
+    where
+      learns : (a : ℕ) → Closed-form (atom a) → write (atom a) ≡ bs → With atoms (parts (atomKnown opened) (atom a)) atoms′
+      learns a form is b =
+          added b
+          ∙ ap (λ l. within atoms b || (ltb (getD l 0 0) 128 && eqb (getD l 0 0) b)) (sym is)
+          ∙ ap (λ c. within atoms b || (c && eqb a b)) (lt-ltb a 128 (atom-small a (form .fits .sound)))
+          ∙ ap (λ c. within atoms b || c) (or-false (eqb a b))
+
+  pub absorb-other : (kept′ : List (List ℕ)) (atoms′ : Atoms) → standsForAtom (symbol (getD bs 0 0)) ≡ false → (symbol (getD bs 0 0) ≡ Join → ⊥) → (symbol (getD bs 0 0) ≡ Lock → ⊥)
+      → Absorbs opened bs kept kept′ atoms atoms′
+  absorb-other kept′ atoms′ at not-join not-lock = record { keeps = λ t form is. absurd (at-none bs at not-join not-lock t form is); learns = λ t form is. absurd (at-none bs at not-join not-lock t form is) }
+
+-- what is kept of a joined or locked form: itself, and what comes out of what it holds
+module _ (opened : Atoms) (bs : List ℕ) (kept kept₁ : List (List ℕ)) (atoms : Atoms) (keeping : isMessage bs ≡ true → kept₁ ≡ kept ++ bs ∷ []) where
+  -- the form itself was kept
+  kept-whole : (t : Tree) → Closed-form t → write t ≡ bs → kept₁ ≡ kept ++ write t ∷ []
+  kept-whole t form is = keeping (ap isMessage (sym is) ∙ ap isSome (message-write t form)) ∙ ap (λ l. kept ++ l ∷ []) (sym is)
+
   pub absorb-joined : symbol (getD bs 0 0) ≡ Join → (l : ℕ) → Says (drop 1 bs) (Some l) → (kept₂ kept₃ : List (List ℕ)) (atoms₂ atoms₃ : Atoms)
       → Absorbs opened (take l (drop 1 bs)) kept₁ kept₂ atoms atoms₂ → Absorbs opened (drop (1 + l) bs) kept₂ kept₃ atoms₂ atoms₃
       → Absorbs opened bs kept kept₃ atoms atoms₃
-  absorb-joined at l says kept₂ kept₃ atoms₂ atoms₃ first second = record { keeps = keeps; learns = learns }
+  absorb-joined at l says kept₂ kept₃ atoms₂ atoms₃ first second = record {
+    keeps = at-join bs at (λ t. kept₃ ≡ kept ++ composites (parts (atomKnown opened) t)) keeps;
+    learns = at-join bs at (λ t. With atoms (parts (atomKnown opened) t) atoms₃) learns;
+  }
     where
       known : Tree → Bool
       known = atomKnown opened
 
-      left-is : (x y : Tree) → Closed-form (joined x y) → write (joined x y) ≡ bs → write x ≡ take l (drop 1 bs)
-      left-is x y form is =
-          let same = left-size x y form is (Some l) says in
-          let n : length (write x) ≡ l = size-write x ∙ (cc) in
-          sym (ap (take l) (ap (drop 1) (sym is)) ∙ take-at (write x) (write y) l n)
-
-      right-is : (x y : Tree) → Closed-form (joined x y) → write (joined x y) ≡ bs → write y ≡ drop (1 + l) bs
-      right-is x y form is =
-          let same = left-size x y form is (Some l) says in
-          let n : length (write x) ≡ l = size-write x ∙ (cc) in
-          sym (sym (drop-drop l 1 bs) ∙ ap (drop l) (ap (drop 1) (sym is)) ∙ drop-at (write x) (write y) l n)
-
-      keeps : (t : Tree) → Closed-form t → write t ≡ bs → kept₃ ≡ kept ++ composites (parts known t)
-      keeps (atom a) form is = let e = atom-first a bs form is in absurd (clash (ap standsForAtom (sym at) ∙ e))
-      keeps (variable v) form is = no-variable v form
-      keeps (joined x y) form is =
-          second .keeps y (right-form form) (right-is x y form is)
-          ∙ ap (λ k. k ++ composites (parts known y)) (first .keeps x (left-form form) (left-is x y form is))
+      keeps : (x y : Tree) → Closed-form (joined x y) → write (joined x y) ≡ bs → kept₃ ≡ kept ++ composites (parts known (joined x y))
+      keeps x y form is =
+          let cut = halves bs x y form is l says in
+          second .keeps y (right-form form) (cut .1)
+          ∙ ap (λ k. k ++ composites (parts known y)) (first .keeps x (left-form form) (cut .0))
           ∙ append-assoc kept₁ (composites (parts known x)) (composites (parts known y))
           ∙ ap (λ k. kept₁ ++ k) (sym (composites-append (parts known x) (parts known y)))
           ∙ ap (λ k. k ++ composites (parts known x ++ parts known y)) (kept-whole (joined x y) form is)
           ∙ append-assoc kept (write (joined x y) ∷ []) (composites (parts known x ++ parts known y))
-      keeps (locked k x) form is = let e = lock-first k x bs is in let z : _≡_ {A = ℕ} 0 1 = cc in absurd (omega arith)
 
-      learns : (t : Tree) → Closed-form t → write t ≡ bs → With atoms (parts known t) atoms₃
-      learns (atom a) form is b = let e = atom-first a bs form is in absurd (clash (ap standsForAtom (sym at) ∙ e))
-      learns (variable v) form is b = no-variable v form
-      learns (joined x y) form is b =
-          second .learns y (right-form form) (right-is x y form is) b
-          ∙ ap (λ c. c || stands (parts known y) (atom b)) (first .learns x (left-form form) (left-is x y form is) b)
+      learns : (x y : Tree) → Closed-form (joined x y) → write (joined x y) ≡ bs → With atoms (parts known (joined x y)) atoms₃
+      learns x y form is b =
+          let cut = halves bs x y form is l says in
+          second .learns y (right-form form) (cut .1) b
+          ∙ ap (λ c. c || stands (parts known y) (atom b)) (first .learns x (left-form form) (cut .0) b)
           ∙ or-assoc (within atoms b) (stands (parts known x) (atom b)) (stands (parts known y) (atom b))
           ∙ ap (λ c. within atoms b || c) (sym (stands-append (parts known x) (parts known y) (atom b)))
-      learns (locked k x) form is b = let e = lock-first k x bs is in let z : _≡_ {A = ℕ} 0 1 = cc in absurd (omega arith)
 
   -- the left half of a joined form is always read
   pub absorb-unread : symbol (getD bs 0 0) ≡ Join → Says (drop 1 bs) None → (kept′ : List (List ℕ)) (atoms′ : Atoms) → Absorbs opened bs kept kept′ atoms atoms′
   absorb-unread at says kept′ atoms′ = record { keeps = λ t form is. absurd (none t form is); learns = λ t form is. absurd (none t form is) }
     where
       none : (t : Tree) → Closed-form t → write t ≡ bs → ⊥
-      none (atom a) form is = let e = atom-first a bs form is in clash (ap standsForAtom (sym at) ∙ e)
-      none (variable v) form is = no-variable v form
-      none (joined x y) form is = let same = left-size x y form is None says in let z : _≡_ {A = ℕ} 0 1 = cc in omega arith
-      none (locked k x) form is = let e = lock-first k x bs is in let z : _≡_ {A = ℕ} 0 1 = cc in omega arith
+      none = at-join bs at (λ _. ⊥) (λ x y form is. let same = left-size bs x y form is None says in let z : _≡_ {A = ℕ} 0 1 = cc in omega arith)
 
   -- a lock that opens: itself, then what comes out of what it locks
   pub absorb-opened : symbol (getD bs 0 0) ≡ Lock → opens (atomKnown opened) (getD bs 1 0) ≡ true → (kept₂ : List (List ℕ)) (atoms₂ : Atoms)
       → Absorbs opened (drop 2 bs) kept₁ kept₂ atoms atoms₂ → Absorbs opened bs kept kept₂ atoms atoms₂
-  absorb-opened at unlocks kept₂ atoms₂ inside = record { keeps = keeps; learns = learns }
+  absorb-opened at unlocks kept₂ atoms₂ inside = record {
+    keeps = at-lock bs at (λ t. kept₂ ≡ kept ++ composites (parts (atomKnown opened) t)) keeps;
+    learns = at-lock bs at (λ t. With atoms (parts (atomKnown opened) t) atoms₂) (λ k x form is b. inside .learns x (inner-form form) (ap (drop 2) is) b ∙ ap (λ l. within atoms b || stands l (atom b)) (sym (out k x is)));
+  }
     where
       known : Tree → Bool
       known = atomKnown opened
@@ -247,25 +269,19 @@ module _ (opened : Atoms) (bs : List ℕ) (kept kept₁ : List (List ℕ)) (atom
       out : (k : ℕ) (x : Tree) → write (locked k x) ≡ bs → parts known (locked k x) ≡ locked k x ∷ parts known x
       out k x is = ap (λ c. locked k x ∷ elim c as (λ _. List Tree) [ true ↦ parts known x | false ↦ [] ]) (ap (λ l. opens known (getD l 1 0)) is ∙ unlocks)
 
-      keeps : (t : Tree) → Closed-form t → write t ≡ bs → kept₂ ≡ kept ++ composites (parts known t)
-      keeps (atom a) form is = let e = atom-first a bs form is in absurd (clash (ap standsForAtom (sym at) ∙ e))
-      keeps (variable v) form is = no-variable v form
-      keeps (joined x y) form is = let e = join-first x y bs is in let z : _≡_ {A = ℕ} 0 1 = cc in absurd (omega arith)
-      keeps (locked k x) form is =
+      keeps : (k : ℕ) (x : Tree) → Closed-form (locked k x) → write (locked k x) ≡ bs → kept₂ ≡ kept ++ composites (parts known (locked k x))
+      keeps k x form is =
           inside .keeps x (inner-form form) (ap (drop 2) is)
           ∙ ap (λ l. l ++ composites (parts known x)) (kept-whole (locked k x) form is)
           ∙ append-assoc kept (write (locked k x) ∷ []) (composites (parts known x))
           ∙ ap (λ l. kept ++ composites l) (sym (out k x is))
 
-      learns : (t : Tree) → Closed-form t → write t ≡ bs → With atoms (parts known t) atoms₂
-      learns (atom a) form is b = let e = atom-first a bs form is in absurd (clash (ap standsForAtom (sym at) ∙ e))
-      learns (variable v) form is b = no-variable v form
-      learns (joined x y) form is b = let e = join-first x y bs is in let z : _≡_ {A = ℕ} 0 1 = cc in absurd (omega arith)
-      learns (locked k x) form is b = inside .learns x (inner-form form) (ap (drop 2) is) b ∙ ap (λ l. within atoms b || stands l (atom b)) (sym (out k x is))
-
   -- a lock that stays shut: itself
   pub absorb-shut : symbol (getD bs 0 0) ≡ Lock → (1 < length bs → opens (atomKnown opened) (getD bs 1 0) ≡ false) → Absorbs opened bs kept kept₁ atoms atoms
-  absorb-shut at shut = record { keeps = keeps; learns = learns }
+  absorb-shut at shut = record {
+    keeps = at-lock bs at (λ t. kept₁ ≡ kept ++ composites (parts (atomKnown opened) t)) (λ k x form is. kept-whole (locked k x) form is ∙ ap (λ l. kept ++ composites l) (sym (out k x is)));
+    learns = at-lock bs at (λ t. With atoms (parts (atomKnown opened) t) atoms) (λ k x form is b. or-false (within atoms b) ∙ ap (λ l. within atoms b || stands l (atom b)) (sym (out k x is)));
+  }
     where
       known : Tree → Bool
       known = atomKnown opened
@@ -274,15 +290,3 @@ module _ (opened : Atoms) (bs : List ℕ) (kept kept₁ : List (List ℕ)) (atom
       out k x is =
           let long : 1 < length bs = omega (arith, ap length is) in
           ap (λ c. locked k x ∷ elim c as (λ _. List Tree) [ true ↦ parts known x | false ↦ [] ]) (ap (λ l. opens known (getD l 1 0)) is ∙ shut long)
-
-      keeps : (t : Tree) → Closed-form t → write t ≡ bs → kept₁ ≡ kept ++ composites (parts known t)
-      keeps (atom a) form is = let e = atom-first a bs form is in absurd (clash (ap standsForAtom (sym at) ∙ e))
-      keeps (variable v) form is = no-variable v form
-      keeps (joined x y) form is = let e = join-first x y bs is in let z : _≡_ {A = ℕ} 0 1 = cc in absurd (omega arith)
-      keeps (locked k x) form is = kept-whole (locked k x) form is ∙ ap (λ l. kept ++ composites l) (sym (out k x is))
-
-      learns : (t : Tree) → Closed-form t → write t ≡ bs → With atoms (parts known t) atoms
-      learns (atom a) form is b = let e = atom-first a bs form is in absurd (clash (ap standsForAtom (sym at) ∙ e))
-      learns (variable v) form is b = no-variable v form
-      learns (joined x y) form is b = let e = join-first x y bs is in let z : _≡_ {A = ℕ} 0 1 = cc in absurd (omega arith)
-      learns (locked k x) form is b = or-false (within atoms b) ∙ ap (λ l. within atoms b || stands l (atom b)) (sym (out k x is))

@@ -14,3 +14,4 @@ pub mod Stepping
 pub mod Weighing
 pub mod Scanning
 pub mod Learning
+pub mod Asked

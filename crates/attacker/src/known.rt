@@ -4,6 +4,7 @@ ghost use Rattle.std.specs.Of.Vec.{vec-cap};
 use crate::atoms::Atoms;
 use message::closed::Message;
 
+mod asking;
 mod learning;
 
 // The atoms, and the joined and locked parts. A message of 24 bytes has at most 11 such parts, and 128 are heard.

@@ -1,22 +1,19 @@
 use mathlib.Core.Path.{_≡_, refl, sym, ap, subst, _∙_}
 use mathlib.Core.List.{List}
 use mathlib.Core.Bool.{false}
-use mathlib.Core.Logic.{_⊎_, ⊎-elim}
 use Prim.Native.Nat.{ℕ, _+_, _-_, _≤_, _<_}
 use native.Mathlib.Omega.{arith}
 use lib.ListN.{length, getD, take, drop, length-drop, length-take}
 use Rattle.std.specs.Of.Vec.{vec-items, vec-len}
 use Rattle.std.specs.declared.option.Option.the-variants.{Some, None}
 use Rattle.std.proofs.shelf.Lists.{take-rest, drop-drop}
-use Rattle.message.specs.declared.kind.Kind.{Kind}
-use Rattle.message.specs.declared.kind.Symbol.{Symbol}
-use Rattle.message.specs.declared.kind.Symbol.the-variants.{Variable, Join, Lock, Unused}
+use Rattle.message.specs.declared.kind.Symbol.the-variants.{Join, Lock}
 use Rattle.message.specs.Bytes.{symbol, standsForAtom}
 use Rattle.message.proofs.Reading.{Says}
 use Rattle.attacker.specs.Derivation.{opens}
 use Rattle.attacker.specs.Known.{atomKnown, signs, Absorbs}
 use Rattle.attacker.specs.Texts.{texts}
-use Rattle.attacker.proofs.Absorbing.{absorb-nothing, absorb-atom, absorb-other, absorb-joined, absorb-unread, absorb-opened, absorb-shut}
+use Rattle.attacker.proofs.Absorbing.{absorb-nothing, absorb-atom, absorb-other, absorb-joined, absorb-unread, absorb-opened, absorb-shut, left-cut, other-byte}
 use Rattle.attacker.proofs.Signs.{signs-cut, signs-drop, signs-join, signs-lock}
 use Rattle.attacker.proofs.known.Known.+absorb.Needs as need
 use Rattle.attacker.proofs.known.Known.+absorb.Needs.{else-part-gt1·by·then-part-gt1·else-opens-lock, else-part-gt1·by·else-part-gt1}
@@ -32,10 +29,7 @@ keep-requires t c κs = omega (arith, signs-join (c .args .part .now) (omega ari
 pub keep-requires-in-Lock : need.keep-requires-in-Lock
 keep-requires-in-Lock t c κs = omega (arith, signs-lock (c .args .part .now) (omega arith) (sym (c .in-Lock .ensures tt)), c .pre)
 
--- the halves as the code cuts them
-left-cut : (bs : List ℕ) (l : ℕ) → take (1 + l - 1) (drop 1 bs) ≡ take l (drop 1 bs)
-left-cut bs l = let same : 1 + l - 1 ≡ l = omega arith in ap (λ n. take n (drop 1 bs)) same
-
+-- the room of the halves and of what is locked
 halves : (bs : List ℕ) (l : ℕ) → 0 < length bs → symbol (getD bs 0 0) ≡ Join → signs bs ≡ 1 + (signs (take (1 + l - 1) (drop 1 bs)) + signs (take (length bs - (1 + l)) (drop (1 + l) bs)))
 halves bs l h at =
     omega (arith, signs-join bs h at, signs-cut l (drop 1 bs), ap signs (left-cut bs l), ap signs (take-rest bs (1 + l)), ap signs (drop-drop l 1 bs))
@@ -143,18 +137,10 @@ returns-else-part-gt1 t c =
       grows = omega (arith, ap (λ a. a .bits) same);
     }
 
--- a byte that stands for a variable or for nothing
-other : (s : Symbol) → ((k : Kind) × (s ≡ Variable k)) ⊎ (s ≡ Unused) → (standsForAtom s ≡ false) × (s ≡ Join → ⊥) × (s ≡ Lock → ⊥)
-other s is =
-    ⊎-elim
-    (λ v. let e = v .1 in (ap standsForAtom e, λ j. let z : _≡_ {A = ℕ} 0 1 = cc in omega arith, λ l. let z : _≡_ {A = ℕ} 0 1 = cc in omega arith))
-    (λ e. (ap standsForAtom e, λ j. let z : _≡_ {A = ℕ} 0 1 = cc in omega arith, λ l. let z : _≡_ {A = ℕ} 0 1 = cc in omega arith))
-    is
-
 pub returns-in-Variable : need.returns-in-Variable
 returns-in-Variable t c =
     let self = c .args .self .now in
     let bs = c .args .part .now in
     let kept = texts (vec-items (self .parts)) in
-    let at = subst (λ s. (standsForAtom s ≡ false) × (s ≡ Join → ⊥) × (s ≡ Lock → ⊥)) (c .symbol-of .ensures) (other (c .symbol-of .result) (c .in-Variable .is)) in
+    let at = subst (λ s. (standsForAtom s ≡ false) × (s ≡ Join → ⊥) × (s ≡ Lock → ⊥)) (c .symbol-of .ensures) (other-byte (c .symbol-of .result) (c .in-Variable .is)) in
     record { absorbs = absorb-other (c .args .opened) bs kept (self .atoms) kept (self .atoms) (at .0) (at .1) (at .2); few = omega arith; grows = omega arith }
