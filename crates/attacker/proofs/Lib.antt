@@ -15,3 +15,5 @@ pub mod Weighing
 pub mod Scanning
 pub mod Learning
 pub mod Asked
+pub mod Marking
+pub mod Telling

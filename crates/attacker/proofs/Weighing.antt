@@ -19,7 +19,7 @@ use Rattle.attacker.proofs.Absorbing.{atom-small, locking-small, no-variable, 
 use Rattle.attacker.proofs.Closing.{opens-from, opens-by}
 use Rattle.attacker.proofs.Signs.{signs-append}
 
-small-sign : (b : ℕ) → b < 0xF0 → sign b ≡ 0
+pub small-sign : (b : ℕ) → b < 0xF0 → sign b ≡ 0
 small-sign b h = (λ i. cond (ne-eqb b 0xF0 (λ e. omega arith) i || ne-eqb b 0xF1 (λ e. omega arith) i) 1 0)
 
 -- a lock that the wider set opens now

@@ -10,7 +10,9 @@ use message::stop::Stop;
 
 pub mod among;
 pub mod atoms;
+pub mod full;
 pub mod known;
+pub mod mark;
 pub mod repeater;
 
 // An attacker is the list of messages that it has heard, the oldest first, and the relation "can make" between such

@@ -1,0 +1,108 @@
+use mathlib.Core.Path.{_≡_, refl, sym, ap, subst, _∙_}
+use mathlib.Core.List.{map, _∷_, [], _++_}
+use mathlib.Core.Logic.{∥∥₁-map}
+use Prim.Native.Nat.{_+_, _*_, _≤_, _<_}
+use native.Mathlib.Omega.{arith}
+use lib.ListN.{length, getD}
+use Rattle.std.specs.Of.Vec.{vec-items, vec-len}
+use Rattle.std.proofs.shelf.Lists.{length-map, length-append, map-push}
+use Rattle.message.specs.Messages.{messageText}
+use Rattle.attacker.specs.declared.mark.Mark.{Mark}
+use Rattle.attacker.specs.Derivation.{Knowledge}
+use Rattle.attacker.specs.Known.{knownBy, signs, weights}
+use Rattle.attacker.specs.Marks.{noMark, AllKnown, Roomy, Rising}
+use Rattle.attacker.specs.Texts.{texts}
+use Rattle.attacker.proofs.Answering.{hear-full, list-full, hear-taken, list-taken}
+use Rattle.attacker.proofs.Learning.{message-tree, same-atoms}
+use Rattle.attacker.proofs.Marking.{few-signs, now-known, now-roomy, known-more, roomy-more, rising-more, last-more}
+use Rattle.attacker.proofs.full.calls.FullAttackerAttacker.hear.Needs as need
+
+pub returns-then-len-ge128 : need.returns-then-len-ge128
+returns-then-len-ge128 c =
+    let messages = c .args .self .now .messages in
+    let list = map messageText (vec-items messages) in
+    let told = c .in-Some .ensures tt in
+    let full : 128 ≤ length list = omega (arith, length-map (vec-items messages) messageText, messages .ok .0) in
+    record {
+      answer = hear-full list (c .args .message .now) (told .0) full;
+      list = list-full list (c .args .message .now) (told .0) full;
+      relation = refl;
+    }
+
+pub learn-requires : need.learn-requires
+learn-requires c κs =
+    let self = c .args .self .now in
+    let kept = texts (vec-items (self .known .parts)) in
+    let marks = vec-items (self .marks) in
+    let count = vec-len (self .messages) in
+    let tree = message-tree (c .in-Some .message) in
+    let there : count < length marks = omega (arith, self .each, self .marks .ok .0) in
+    let full : getD marks count noMark .parts ≡ length kept = self .parts ∙ self .known .parts .ok .0 ∙ sym (length-map (vec-items (self .known .parts)) messageText) in
+    omega (arith, now-roomy kept marks count (self .known .atoms) there (same-atoms (getD marks count noMark .atoms) (self .known .atoms) (self .atoms)) full (self .roomy), few-signs (tree .0) (tree .1), ap signs (tree .2))
+
+pub ghost-self-2 : need.ghost-self-2
+ghost-self-2 c =
+    let self = c .args .self .now in
+    let message = c .in-Some .message in
+    let m = messageText message in
+    let tree = message-tree message in
+    let heard = texts (vec-items (self .messages)) in
+    let kept = texts (vec-items (self .known .parts)) in
+    let marks = vec-items (self .marks) in
+    let count = vec-len (self .messages) in
+    let learnt = c .learn .last .self in
+    let fresh = c .learn .ensures .keeps .0 in
+    let mark : Mark = record { atoms = learnt .atoms; parts = c .len-2 .result } in
+    let there : count < length marks = omega (arith, self .each, self .marks .ok .0) in
+    let many : length marks ≡ count + 1 = omega (arith, self .each, self .marks .ok .0) in
+    let all : length heard ≡ count = length-map (vec-items (self .messages)) messageText ∙ sym (self .messages .ok .0) in
+    let full : getD marks count noMark .parts ≡ length kept = self .parts ∙ self .known .parts .ok .0 ∙ sym (length-map (vec-items (self .known .parts)) messageText) in
+    let atoms-now = same-atoms (getD marks count noMark .atoms) (self .known .atoms) (self .atoms) in
+    let heard′ : heard ++ m ∷ [] ≡ texts (vec-items (c .push-reserved .last .self)) = sym (ap texts (c .push-reserved .ensures .items) ∙ map-push messageText (vec-items (self .messages)) message) in
+    let kept′ : kept ++ fresh ≡ texts (vec-items (learnt .parts)) = sym (c .learn .ensures .keeps .1) in
+    let marks′ : marks ++ mark ∷ [] ≡ vec-items (c .push-reserved-2 .last .self) = sym (c .push-reserved-2 .ensures .items) in
+    let whole : mark .parts ≡ length (kept ++ fresh) = c .len-2 .ensures ∙ learnt .parts .ok .0 ∙ sym (length-map (vec-items (learnt .parts)) messageText) ∙ ap length (sym kept′) in
+    let room : weights (mark .atoms) (kept ++ fresh) ≤ 11 * (count + 1) =
+        omega (arith, ap (weights (mark .atoms)) kept′, c .learn .ensures .room, now-roomy kept marks count (self .known .atoms) there atoms-now full (self .roomy), few-signs (tree .0) (tree .1), ap signs (tree .2)) in
+    let one-more : vec-len (c .push-reserved .last .self) ≡ count + 1 = c .push-reserved .ensures .len in
+    let last : getD (vec-items (c .push-reserved-2 .last .self)) (vec-len (c .push-reserved .last .self)) noMark ≡ mark =
+        (λ i. getD (sym marks′ i) (one-more i) noMark) ∙ last-more heard kept fresh m marks mark count many all (self .rising) full whole in
+    (
+      omega (arith, self .room, c .push-reserved .ensures .capacity),
+      (
+        omega arith,
+        (
+          omega (arith, self .spare, c .push-reserved-2 .ensures .capacity),
+          (
+            omega (arith, self .each, c .push-reserved-2 .ensures .len, one-more),
+            (
+              ∥∥₁-map (self .knows) (λ known.
+                  let before = now-known heard kept marks count (self .known .atoms) all there atoms-now full known in
+                  let here = subst (λ k. Knowledge (heard ++ m ∷ []) (knownBy (learnt .atoms) k)) (sym kept′) (c .learn .ensures .knows heard before) in
+                  subst (λ r. AllKnown (texts (vec-items (c .push-reserved .last .self))) (texts (vec-items (learnt .parts))) r) marks′
+                  (subst (λ k. AllKnown (texts (vec-items (c .push-reserved .last .self))) k (marks ++ mark ∷ [])) kept′
+                  (subst (λ l. AllKnown l (kept ++ fresh) (marks ++ mark ∷ [])) heard′ (known-more heard kept fresh m marks mark count many all (self .rising) full whole known here)))),
+              (
+                subst (λ r. Roomy (texts (vec-items (learnt .parts))) r) marks′ (subst (λ k. Roomy k (marks ++ mark ∷ [])) kept′ (roomy-more heard kept fresh m marks mark count many all (self .rising) full whole (self .roomy) room)),
+                (
+                  subst Rising marks′ (rising-more heard kept fresh m marks mark count many all (self .rising) full whole (omega (arith, whole, length-append kept fresh))),
+                  (ap (λ r. r .atoms .bits) last, (ap (λ r. r .parts) last ∙ c .len-2 .ensures, tt)),
+                ),
+              ),
+            ),
+          ),
+        ),
+      ),
+    )
+
+pub returns : need.returns
+returns c =
+    let messages = c .args .self .now .messages in
+    let list = map messageText (vec-items messages) in
+    let told = c .in-Some .ensures tt in
+    let room : length list < 128 = omega (arith, length-map (vec-items messages) messageText, messages .ok .0) in
+    record {
+      answer = hear-taken list (c .args .message .now) (told .0) room;
+      list = ap (map messageText) (c .push-reserved .ensures .items) ∙ map-push messageText (vec-items messages) (c .in-Some .message) ∙ ap (λ l. list ++ l ∷ []) (told .1) ∙ list-taken list (c .args .message .now) (told .0) room;
+      relation = refl;
+    }
