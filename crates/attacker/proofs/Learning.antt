@@ -7,13 +7,14 @@ use Prim.Native.Nat.{ℕ, _+_}
 use borrow.Author.Tests.{clash, not-false}
 use Rattle.std.specs.declared.option.Option.{Option}
 use Rattle.std.specs.declared.option.Option.the-variants.{Some}
+use Rattle.std.specs.Options.{isSome}
 use Rattle.std.specs.shelf.Text.{sameBytes}
 use Rattle.std.proofs.shelf.Equals.{sameBytes-decides}
 use Rattle.std.proofs.shelf.Tests.{or-left, and-parts, and-from}
 use Rattle.message.specs.declared.closed.Message.{Message}
 use Rattle.message.specs.Bytes.{inverseOf}
 use Rattle.message.specs.Messages.{messageText}
-use Rattle.message.specs.Trees.{Tree, atom, variable, joined, locked, write, closed, messageOf}
+use Rattle.message.specs.Trees.{Tree, atom, variable, joined, locked, write, closed, messageOf, isMessage}
 use Rattle.message.proofs.OneReading.{form-written}
 use Rattle.attacker.specs.declared.atoms.Atoms.{Atoms}
 use Rattle.attacker.specs.Atoms.{within}
@@ -32,6 +33,9 @@ pub message-tree : (m : Message) → (t : Tree) × Closed-form t × (write t ≡
 message-tree m =
     let found = form-written (messageText m) (m .form .reads) in
     (found .0, record { fits = found .1; fixed = ap closed (found .2) ∙ m .fixed }, found .2)
+
+pub message-is : (m : Message) → isMessage (messageText m) ≡ true
+message-is m = let tree = message-tree m in ap isMessage (sym (tree .2)) ∙ ap isSome (message-write (tree .0) (tree .1))
 
 -- parted knowledge whose locks are open to all its atoms is closed under the rules
 pub settled : (heard kept : List (List ℕ)) (atoms : Atoms) → Parted heard (knownBy atoms kept) → Open atoms kept (knownBy atoms kept) → Knowledge heard (knownBy atoms kept)

@@ -1,5 +1,5 @@
 // Attackers on the shared line: what they have heard, and what they can make of it.
-ghost use Prim.Native.Nat.{ℕ};
+ghost use Prim.Native.Nat.{ℕ, _≤_};
 ghost use mathlib.Core.Bool.{Bool};
 ghost use mathlib.Core.List.{List};
 ghost use mathlib.Core.Path.{_≡_};
@@ -12,6 +12,7 @@ pub mod among;
 pub mod atoms;
 pub mod full;
 pub mod known;
+pub mod listening;
 pub mod mark;
 pub mod repeater;
 
@@ -28,9 +29,10 @@ pub trait Attacker {
     // Each message of a list can be made from it.
     law own: { (a : Self) → Own (makes a) };
 
-    // How many messages it has heard.
+    // How many messages it has heard, never more than 128.
     fn count(&self) -> usize
-        ensures value { λ r. ⌜ r ≡ length (heard (now (self .entry))) ⌝ };
+        ensures value { λ r. ⌜ r ≡ length (heard (now (self .entry))) ⌝ }
+        ensures few { λ r. ⌜ r ≤ 128 ⌝ };
 
     // Puts a message at the end of the list.
     fn hear(&mut self, message: &[u8]) -> Result<(), Stop>
