@@ -184,8 +184,7 @@ module _ (bs : List ℕ) where
   pub halves : (x y : Tree) → Closed-form (joined x y) → write (joined x y) ≡ bs → (l : ℕ) → Says (drop 1 bs) (Some l) → (write x ≡ take l (drop 1 bs)) × (write y ≡ drop (1 + l) bs)
   halves x y form is l says =
       let same = left-size x y form is (Some l) says in
-      let n : length (write x) ≡ l = size-write x ∙ (cc) in
-      (
+      let n : length (write x) ≡ l = size-write x ∙ (cc) in (
         sym (ap (take l) (ap (drop 1) (sym is)) ∙ take-at (write x) (write y) l n),
         sym (sym (drop-drop l 1 bs) ∙ ap (drop l) (ap (drop 1) (sym is)) ∙ drop-at (write x) (write y) l n),
       )

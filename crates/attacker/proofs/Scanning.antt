@@ -149,19 +149,19 @@ module _ (opened wider : Atoms) (start : List (List ℕ)) (atoms₀ : Atoms) (in
         fresh = scan .fresh ++ comes;
         kept-is = took .keeps x (inner-form form) refl ∙ ap (λ l. l ++ comes) (scan .kept-is) ∙ append-assoc start (scan .fresh) comes;
         room =
-          let w = weight-opens opened wider m now in
-          omega (
-            arith,
-            scan .room,
-            front-room wider,
-            back-room opened,
-            w .0,
-            w .1,
-            ap signs (sym is),
-            lock-sign k x form,
-            weights-append wider (scan .fresh) comes,
-            weights-parts wider x (inner-form form),
-          );
+            let w = weight-opens opened wider m now in
+            omega (
+              arith,
+              scan .room,
+              front-room wider,
+              back-room opened,
+              w .0,
+              w .1,
+              ap signs (sym is),
+              lock-sign k x form,
+              weights-append wider (scan .fresh) comes,
+              weights-parts wider x (inner-form form),
+            );
         keeps = λ b h. still (atom b) (scan .keeps b h);
         knows = λ heard parted before ins.
             let sofar = scan .knows heard parted before ins in
@@ -179,12 +179,10 @@ module _ (opened wider : Atoms) (start : List (List ℕ)) (atoms₀ : Atoms) (in
       → (weights wider kept ≡ weights opened start)
       × ((heard : List (List ℕ)) → Parted heard (knownBy atoms₀ start) → Open opened start (knownBy atoms₀ start) → Inside wider atoms₀ → Parted heard (knownBy atoms kept) × Open wider kept (knownBy atoms kept))
   scan-ends i all kept atoms scan =
-      let front = take-all i start all in
-      (
+      let front = take-all i start all in (
         ap (weights wider) (scan .kept-is) ∙ weights-append wider start (scan .fresh) ∙ omega (arith, scan .room, ap (weights wider) front, ap (weights opened) (drop-all i start all)),
         λ heard parted before ins.
-            let sofar = scan .knows heard parted before ins in
-            (
+            let sofar = scan .knows heard parted before ins in (
               sofar .parted,
               subst (λ l. Open wider l (knownBy atoms kept)) (sym (scan .kept-is)) (open-both wider start (scan .fresh) (knownBy atoms kept) (subst (λ l. Open wider l (knownBy atoms kept)) front (sofar .passed)) (sofar .added)),
             ),

@@ -23,7 +23,11 @@ pub fn hear_all<A: Attacker>(attacker: &mut A, messages: &[Message]) -> Result<(
 }
 
 // Whether the attacker could make the question if it had heard these messages too. It has heard no more afterwards.
-pub fn ask_after<A: Attacker>(attacker: &mut A, messages: &[Message], question: &Message) -> Result<bool, Stop>
+pub fn ask_after<A: Attacker>(
+    attacker: &mut A,
+    messages: &[Message],
+    question: &Message,
+) -> Result<bool, Stop>
     ensures answer { λ r. ⌜ r ≡ wouldMake (makes (now (attacker .entry))) (heard (now (attacker .entry))) (texts (now (messages .entry))) (messageText (now (question .entry))) ⌝ }
     ensures list { λ _. ⌜ heard (now (attacker .exit)) ≡ heard (now (attacker .entry)) ⌝ }
     ensures relation { λ _. ⌜ makes (now (attacker .exit)) ≡ makes (now (attacker .entry)) ⌝ }

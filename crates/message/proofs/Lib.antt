@@ -1,5 +1,12 @@
+pub mod Atoms
+pub mod Binding
+pub mod FillLoop
+pub mod Filled
+pub mod Firsts
+pub mod FirstsLoop
 pub mod NoVariable
 pub mod OneReading
+pub mod OneValue
 pub mod Padding
 pub mod Reading
 pub mod Whole

@@ -5,10 +5,10 @@ ghost use Rattle.message.specs.Forms.{text};
 ghost use Rattle.message.specs.Trees.{closed};
 use crate::form::Form;
 
-mod methods;
+pub mod methods;
 
 #[derive(Clone, Copy)]
 pub struct Message {
-    form: Form,
+    pub(crate) form: Form,
     ghost fixed: { closed (text form) ≡ true },
 }

@@ -5,7 +5,8 @@ ghost use mathlib.Core.Path.{_≡_};
 ghost use lib.ListN.{length, take, drop, replicate};
 ghost use Rattle.message.specs.Trees.{isForm};
 
-mod methods;
+mod filling;
+pub mod methods;
 
 // The bytes of one form, zeros after them, so that one form has one value.
 #[derive(Clone, Copy)]

@@ -1,6 +1,7 @@
 // What a byte of a form stands for.
 ghost use mathlib.Core.Path.{_≡_};
 ghost use Rattle.message.specs.Bytes.{symbol, inverseOf};
+ghost use Rattle.message.specs.Filling.{ofKind};
 
 // The five kinds of atoms. Each kind has variables of its own.
 #[derive(Clone, Copy, PartialEq, Eq, Debug)]
@@ -51,5 +52,15 @@ pub fn inverse(key: u8) -> Option<u8>
         Symbol::Atom(Kind::SharedKey) => Some(key),
         Symbol::Atom(Kind::PairKey) => Some(if key % 2 == 0 { key + 1 } else { key - 1 }),
         _ => None,
+    }
+}
+
+// Whether `variable` is a variable and `atom` an atom of its kind.
+pub fn fits_kind(variable: u8, atom: u8) -> bool
+    ensures value { λ r. ⌜ r ≡ ofKind variable atom ⌝ }
+{
+    match (symbol_of(variable), symbol_of(atom)) {
+        (Symbol::Variable(wanted), Symbol::Atom(kind)) => wanted == kind,
+        _ => false,
     }
 }

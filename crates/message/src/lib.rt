@@ -4,3 +4,7 @@ pub mod form;
 pub mod kind;
 pub mod reader;
 pub mod stop;
+#[cfg(test)]
+mod tests;
+pub mod values;
+pub mod variables;

@@ -3,7 +3,7 @@ ghost use mathlib.Core.Path.{_≡_};
 ghost use Rattle.std.specs.Options.{Cases};
 ghost use Rattle.std.specs.shelf.Text.{sameBytes};
 ghost use Rattle.message.specs.Forms.{text};
-ghost use Rattle.message.specs.Messages.{messageText};
+ghost use Rattle.message.specs.Messages.{messageText, OneMessage};
 ghost use Rattle.message.specs.Trees.{Tree, write, closed, isMessage, Fits};
 use crate::closed::Message;
 use crate::form::Form;
@@ -25,7 +25,8 @@ impl Form {
 impl Message {
     // The message that all the bytes are, or nothing where they are no closed form.
     pub fn read(bytes: &[u8]) -> Option<Message>
-        ensures { λ r. ⌜ Cases r (isMessage (now (bytes .entry)) ≡ false) (λ m. (isMessage (now (bytes .entry)) ≡ true) × (messageText m ≡ now (bytes .entry))) ⌝ }
+        ensures value { λ r. ⌜ Cases r (isMessage (now (bytes .entry)) ≡ false) (λ m. (isMessage (now (bytes .entry)) ≡ true) × (messageText m ≡ now (bytes .entry))) ⌝ }
+        ensures one_value { λ _. ⌜ OneMessage ⌝ }
     {
         match Form::read(bytes) {
             Ok(form) => form.message(),
@@ -37,7 +38,8 @@ impl Message {
     pub fn form(&self) -> Form
         ensures { λ r. ⌜ r ≡ now (self .entry) .form ⌝ }
     {
-        self.form
+        let Message { form } = *self;
+        form
     }
 
     // The bytes of the message.

@@ -5,7 +5,7 @@ ghost use lib.ListN.{length};
 ghost use Rattle.std.specs.Results.{Cases};
 ghost use Rattle.std.specs.shelf.Text.{sameBytes};
 ghost use Rattle.message.specs.declared.stop.Stop.the-variants.{NotOneForm};
-ghost use Rattle.message.specs.Forms.{text, padding};
+ghost use Rattle.message.specs.Forms.{text, padding, OneForm};
 ghost use Rattle.message.specs.Trees.{Tree, write, isForm, closed, Fits, OneReading};
 use crate::form::Form;
 use crate::reader::form_length;
@@ -31,6 +31,7 @@ impl Form {
         ensures value { λ r. ⌜ Cases r (λ form. (isForm (now (bytes .entry)) ≡ true) × (text form ≡ now (bytes .entry))) (λ stop. (isForm (now (bytes .entry)) ≡ false) × (stop ≡ NotOneForm)) ⌝ }
         ensures written { λ r. ⌜ Cases r (λ _. (t : Tree) × Fits t × (write t ≡ now (bytes .entry))) (λ _. (t : Tree) → Fits t → write t ≡ now (bytes .entry) → ⊥) ⌝ }
         ensures one_reading { λ _. ⌜ OneReading ⌝ }
+        ensures one_value { λ _. ⌜ OneForm ⌝ }
     {
         let len = bytes.len();
         if len > 24 {

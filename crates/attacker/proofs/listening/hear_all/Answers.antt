@@ -64,8 +64,7 @@ pub loop-message-again : need.loop-message-again
 loop-message-again g c =
     let list = g .A·Attacker .heard (c .args .attacker .now) in
     let ms = c .args .messages .now in
-    let fit : length list + length ms ≤ 128 = omega (arith, c .count .ensures .value, c .count .ensures .few) in
-    (
+    let fit : length list + length ms ≤ 128 = omega (arith, c .count .ensures .value, c .count .ensures .few) in (
       c .hear .ensures .list ∙ next-list list (g .A·Attacker .heard (c .loop-message .attacker)) ms (c .loop-message .message-index) (c .message-item .result) (c .bytes .result .now) fit (c .loop-message-test .taken) (c .loop-message .inv .0) (c .message-item .is) (c .bytes .ensures),
       c .hear .ensures .relation ∙ c .loop-message .inv .1,
     )

@@ -21,8 +21,7 @@ ghost-result-2 c =
     let no-parts = c .in-Continue-parts .ensures tt .made in
     let no-marks = c .in-Continue-marks .ensures tt .made in
     let is : vec-items marks ≡ first ∷ [] = c .push-reserved .ensures .items ∙ ap (λ l. l ++ first ∷ []) (no-marks .0) in
-    let last : getD (vec-items marks) (vec-len messages) noMark ≡ first = λ i. getD (is i) (no-messages .1 .0 i) noMark in
-    (
+    let last : getD (vec-items marks) (vec-len messages) noMark ≡ first = λ i. getD (is i) (no-messages .1 .0 i) noMark in (
       no-messages .1 .1,
       (
         omega (arith, no-messages .1 .0),

@@ -82,9 +82,9 @@ returns-in-Some t c =
     let same = c .keep .ensures .atoms in
     record {
       absorbs = absorb-joined (c .args .opened) bs kept kept₁ (self .atoms) (c .keep .ensures .kept) at l
-        (subst (λ l′. Says l′ (Some l)) (take-rest bs 1) (c .in-Some .ensures tt .reads)) kept₂ kept₃ (c .absorb .last .self .atoms) (c .absorb-in-Some .last .self .atoms)
-        (subst (λ l′. Absorbs (c .args .opened) l′ kept₁ kept₂ (self .atoms) (c .absorb .last .self .atoms)) (left-cut bs l) (subst (λ a. Absorbs (c .args .opened) (take (1 + l - 1) (drop 1 bs)) kept₁ kept₂ a (c .absorb .last .self .atoms)) same (first .absorbs)))
-        (subst (λ l′. Absorbs (c .args .opened) l′ kept₂ kept₃ (c .absorb .last .self .atoms) (c .absorb-in-Some .last .self .atoms)) (take-rest bs (1 + l)) (second .absorbs));
+          (subst (λ l′. Says l′ (Some l)) (take-rest bs 1) (c .in-Some .ensures tt .reads)) kept₂ kept₃ (c .absorb .last .self .atoms) (c .absorb-in-Some .last .self .atoms)
+          (subst (λ l′. Absorbs (c .args .opened) l′ kept₁ kept₂ (self .atoms) (c .absorb .last .self .atoms)) (left-cut bs l) (subst (λ a. Absorbs (c .args .opened) (take (1 + l - 1) (drop 1 bs)) kept₁ kept₂ a (c .absorb .last .self .atoms)) same (first .absorbs)))
+          (subst (λ l′. Absorbs (c .args .opened) l′ kept₂ kept₃ (c .absorb .last .self .atoms) (c .absorb-in-Some .last .self .atoms)) (take-rest bs (1 + l)) (second .absorbs));
       few = omega (arith, halves bs l (omega arith) at, c .keep .ensures .few, first .few, second .few);
       grows = omega (arith, ap (λ a. a .bits) same, first .grows, second .grows);
     }
@@ -96,7 +96,7 @@ returns-in-rest t c =
     let at = sym (c .in-Join .ensures tt) in
     record {
       absorbs = absorb-unread (c .args .opened) bs (texts (vec-items (self .parts))) (texts (vec-items (c .keep .last .self .parts))) (self .atoms) (c .keep .ensures .kept) at
-        (subst (λ l. Says l None) (take-rest bs 1) (c .in-rest .ensures tt .reads)) (texts (vec-items (c .keep .last .self .parts))) (c .keep .last .self .atoms);
+          (subst (λ l. Says l None) (take-rest bs 1) (c .in-rest .ensures tt .reads)) (texts (vec-items (c .keep .last .self .parts))) (c .keep .last .self .atoms);
       few = omega (arith, signs-join bs (omega arith) at, c .keep .ensures .few);
       grows = omega (arith, ap (λ a. a .bits) (c .keep .ensures .atoms));
     }
@@ -112,7 +112,7 @@ returns-then-opens-lock t c =
     let same = c .keep-in-Lock .ensures .atoms in
     record {
       absorbs = absorb-opened (c .args .opened) bs (texts (vec-items (self .parts))) kept₁ (self .atoms) (c .keep-in-Lock .ensures .kept) at (sym (c .if-opens-lock .ensures tt)) kept₂ (c .absorb-then-opens-lock .last .self .atoms)
-        (subst (λ l. Absorbs (c .args .opened) l kept₁ kept₂ (self .atoms) (c .absorb-then-opens-lock .last .self .atoms)) (take-rest bs 2) (subst (λ a. Absorbs (c .args .opened) (take (length bs - 2) (drop 2 bs)) kept₁ kept₂ a (c .absorb-then-opens-lock .last .self .atoms)) same (body .absorbs)));
+          (subst (λ l. Absorbs (c .args .opened) l kept₁ kept₂ (self .atoms) (c .absorb-then-opens-lock .last .self .atoms)) (take-rest bs 2) (subst (λ a. Absorbs (c .args .opened) (take (length bs - 2) (drop 2 bs)) kept₁ kept₂ a (c .absorb-then-opens-lock .last .self .atoms)) same (body .absorbs)));
       few = omega (arith, inside bs (omega arith) at, c .keep-in-Lock .ensures .few, body .few);
       grows = omega (arith, ap (λ a. a .bits) same, body .grows);
     }
@@ -126,10 +126,10 @@ returns-else-part-gt1 t c =
     let kept₁ = texts (vec-items (c .keep-in-Lock .last .self .parts)) in
     let same = c .keep-in-Lock .ensures .atoms in
     let shut : 1 < length bs → opens (atomKnown (c .args .opened)) (getD bs 1 0) ≡ false =
-        λ long. elim (c .else-part-gt1 .came) [
-          else-part-gt1·by·then-part-gt1·else-opens-lock w ↦ sym (w .opens-lock .ensures) ∙ w .if-opens-lock .left
-        | else-part-gt1·by·else-part-gt1 w ↦ absurd (omega (arith, w .if-part-gt1 .left))
-        ]
+    λ long. elim (c .else-part-gt1 .came) [
+      | else-part-gt1·by·then-part-gt1·else-opens-lock w ↦ sym (w .opens-lock .ensures) ∙ w .if-opens-lock .left
+      | else-part-gt1·by·else-part-gt1 w ↦ absurd (omega (arith, w .if-part-gt1 .left))
+    ]
     in
     record {
       absorbs = subst (λ a. Absorbs (c .args .opened) bs kept kept₁ (self .atoms) a) (sym same) (absorb-shut (c .args .opened) bs kept kept₁ (self .atoms) (c .keep-in-Lock .ensures .kept) at shut);

@@ -58,8 +58,8 @@ returns-else-can-build t c u form is =
     let says = subst (λ r. Says r (Some l)) (take-rest bs 1) (c .in-Some .ensures tt .reads) in
     c .stands-among .ensures ∙ ap (λ ms. has (texts ms) bs) (c .deref .ensures .value)
     ∙ (elim (c .else-can-build .came) as (λ _. Built (self .atoms) kept bs bs (has kept bs)) [
-      else-can-build·by·then-can-build·else-can-build-2 w ↦ built-right-not (self .atoms) kept bs at l says (subst (λ r. Built (self .atoms) kept bs r false) (take-rest bs (1 + l)) (w .if-can-build-2 .ensures tt))
-    | else-can-build·by·else-can-build w ↦ built-left-not (self .atoms) kept bs at l says (subst (λ r. Built (self .atoms) kept bs r false) (left-cut bs l) (w .if-can-build .ensures tt))
+      | else-can-build·by·then-can-build·else-can-build-2 w ↦ built-right-not (self .atoms) kept bs at l says (subst (λ r. Built (self .atoms) kept bs r false) (take-rest bs (1 + l)) (w .if-can-build-2 .ensures tt))
+      | else-can-build·by·else-can-build w ↦ built-left-not (self .atoms) kept bs at l says (subst (λ r. Built (self .atoms) kept bs r false) (left-cut bs l) (w .if-can-build .ensures tt))
     ]) u form is
 
 pub returns-then-can-build-3 : need.returns-then-can-build-3
@@ -77,7 +77,7 @@ returns-else-part-gt1 t c u form is =
     let at = sym (c .in-Lock .ensures tt) in
     c .stands-among-in-Lock .ensures ∙ ap (λ ms. has (texts ms) bs) (c .deref-in-Lock .ensures .value)
     ∙ (elim (c .else-part-gt1 .came) as (λ _. Built (self .atoms) kept bs bs (has kept bs)) [
-      else-part-gt1·by·then-part-gt1·then-has·else-can-build-3 w ↦ built-no-body (self .atoms) kept bs at (subst (λ r. Built (self .atoms) kept bs r false) (take-rest bs 2) (w .if-can-build-3 .ensures tt))
-    | else-part-gt1·by·then-part-gt1·else-has w ↦ built-no-key (self .atoms) kept bs at (λ _. w .if-has .ensures tt)
-    | else-part-gt1·by·else-part-gt1 w ↦ built-no-key (self .atoms) kept bs at (λ long. absurd (omega (arith, w .if-part-gt1 .left)))
+      | else-part-gt1·by·then-part-gt1·then-has·else-can-build-3 w ↦ built-no-body (self .atoms) kept bs at (subst (λ r. Built (self .atoms) kept bs r false) (take-rest bs 2) (w .if-can-build-3 .ensures tt))
+      | else-part-gt1·by·then-part-gt1·else-has w ↦ built-no-key (self .atoms) kept bs at (λ _. w .if-has .ensures tt)
+      | else-part-gt1·by·else-part-gt1 w ↦ built-no-key (self .atoms) kept bs at (λ long. absurd (omega (arith, w .if-part-gt1 .left)))
     ]) u form is

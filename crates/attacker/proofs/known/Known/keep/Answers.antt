@@ -10,7 +10,7 @@ pub returns-in-Some : need.returns-in-Some
 returns-in-Some c =
     let items = vec-items (c .args .self .now .parts) in
     record {
-      kept = λ _. ap (map messageText) (c .push-reserved .ensures .items) ∙ map-push messageText items (c .in-Some .message) ∙ ap (λ l. map messageText items ++ l ∷ []) (c .in-Some .ensures tt .1);
+      kept = λ _. ap (map messageText) (c .push-reserved .ensures .items) ∙ map-push messageText items (c .in-Some .message) ∙ ap (λ l. map messageText items ++ l ∷ []) (c .in-Some .ensures tt .value .1);
       few = omega arith;
       atoms = refl;
     }

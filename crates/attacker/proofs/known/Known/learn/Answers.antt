@@ -53,11 +53,10 @@ loop-opened-less c =
 pub loop-opened-again : need.loop-opened-again
 loop-opened-again c =
     let self = c .args .self .now in
-    let told = c .open-locks .ensures in
-    (
+    let told = c .open-locks .ensures in (
       told .grows,
       opening-on (self .atoms) (texts (vec-items (c .absorb .last .self .parts))) (c .absorb .last .self .atoms) (c .loop-opened .opened) (texts (vec-items (c .loop-opened .self .parts))) (c .loop-opened .self .atoms)
-      (texts (vec-items (c .open-locks .last .self .parts))) (c .open-locks .last .self .atoms) (c .loop-opened .inv .1) (told .opens) (told .room) (told .keeps),
+          (texts (vec-items (c .open-locks .last .self .parts))) (c .open-locks .last .self .atoms) (c .loop-opened .inv .1) (told .opens) (told .room) (told .keeps),
     )
 
 pub returns : need.returns

@@ -26,6 +26,6 @@ returns-then-not-opens-lock c =
     let now-open = opens-now (c .args .opened) (c .args .wider) bs (omega arith) (c .if-part .left) (sym (c .if-opens-lock .ensures tt)) (sym (c .if-not-opens-lock .ensures tt)) in
     record {
       opens = subst (λ b. When b (Absorbs (c .args .wider) (drop 2 bs) kept kept′ (self .atoms) atoms′) ((kept′ ≡ kept) × (atoms′ ≡ self .atoms))) (sym now-open)
-        (subst (λ l. Absorbs (c .args .wider) l kept kept′ (self .atoms) atoms′) (take-rest bs 2) (c .absorb .ensures .absorbs));
+          (subst (λ l. Absorbs (c .args .wider) l kept kept′ (self .atoms) atoms′) (take-rest bs 2) (c .absorb .ensures .absorbs));
       grows = c .absorb .ensures .grows;
     }

@@ -45,8 +45,7 @@ loop-i-again c =
     let at : getD kept i [] ≡ m = getD-map messageText (vec-items now-parts) i item [] (omega (arith, now-parts .ok .0)) ∙ ap messageText (sym (c .index .ensures)) in
     let tree = message-tree item in
     let told = subst (λ l. When (opensNow (c .args .opened) (c .args .wider) l) (Absorbs (c .args .wider) (drop 2 l) kept kept′ atoms atoms′) ((kept′ ≡ kept) × (atoms′ ≡ atoms))) (c .bytes .ensures) (c .open-lock .ensures .opens) in
-    let scan = scan-step (c .args .opened) (c .args .wider) start (self .atoms) (c .pre .inside) i kept atoms (c .loop-i .inv .3) inside-start m at (tree .0) (tree .1) (tree .2) kept′ atoms′ told in
-    (
+    let scan = scan-step (c .args .opened) (c .args .wider) start (self .atoms) (c .pre .inside) i kept atoms (c .loop-i .inv .3) inside-start m at (tree .0) (tree .1) (tree .2) kept′ atoms′ told in (
       omega arith,
       omega (arith, ap length (scan .kept-is), length-append start (scan .fresh), many, self .parts .ok .0, length-map (vec-items (c .open-lock .last .self .parts)) messageText, c .open-lock .last .self .parts .ok .0),
       omega (arith, c .open-lock .ensures .grows),

@@ -9,6 +9,7 @@ use Rattle.message.specs.Trees.{isForm}
 use Rattle.message.proofs.Padding.{pad-length, pad-front, pad-back}
 use Rattle.message.proofs.Reading.{Says}
 use Rattle.message.proofs.OneReading.{one-reading, form-written, none-written}
+use Rattle.message.proofs.OneValue.{one-form}
 use Rattle.message.proofs.Whole.{all-read, too-long, not-all-read}
 use Rattle.message.proofs.form.Form.read.Needs as need
 
@@ -34,22 +35,23 @@ returns-in-Some c =
       value = (form, ap (take (length bs)) (c .pad .ensures) ∙ pad-front bs);
       written = form-written bs form;
       one-reading = one-reading;
+      one-value = one-form;
     }
 
 pub returns-then-len-gt24 : need.returns-then-len-gt24
 returns-then-len-gt24 c =
     let bs = c .args .bytes .now in
     let none = too-long bs (omega arith) in
-    record { value = (none, refl); written = none-written bs none; one-reading = one-reading }
+    record { value = (none, refl); written = none-written bs none; one-reading = one-reading; one-value = one-form }
 
 pub returns-in-rest : need.returns-in-rest
 returns-in-rest c =
     let bs = c .args .bytes .now in
     let none = not-all-read bs (Some (c .in-Some .n)) (c .in-Some .ensures tt .reads) (λ e. c .if-n-len .left (cc)) in
-    record { value = (none, refl); written = none-written bs none; one-reading = one-reading }
+    record { value = (none, refl); written = none-written bs none; one-reading = one-reading; one-value = one-form }
 
 pub returns-in-rest·2 : need.returns-in-rest·2
 returns-in-rest·2 c =
     let bs = c .args .bytes .now in
     let none = not-all-read bs None (c .in-rest .ensures tt .reads) (λ e. let z : _≡_ {A = ℕ} 0 1 = cc in omega arith) in
-    record { value = (none, refl); written = none-written bs none; one-reading = one-reading }
+    record { value = (none, refl); written = none-written bs none; one-reading = one-reading; one-value = one-form }

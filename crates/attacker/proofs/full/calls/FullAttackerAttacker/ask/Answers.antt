@@ -30,11 +30,11 @@ returns c =
     let there : count < length marks = omega (arith, self .each, self .marks .ok .0) in
     let all : length heard ≡ count = length-map (vec-items (self .messages)) messageText ∙ sym (self .messages .ok .0) in
     let full : getD marks count noMark .parts ≡ length kept = self .parts ∙ self .known .parts .ok .0 ∙ sym (length-map (vec-items (self .known .parts)) messageText) in
-    let closed-form : isMessage m ≡ true = read-some (isMessage m ≡ false) (λ r. messageText r ≡ m) (c .read .result) (c .if-is-none .ensures tt) (c .read .ensures) in
+    let closed-form : isMessage m ≡ true = read-some (isMessage m ≡ false) (λ r. messageText r ≡ m) (c .read .result) (c .if-is-none .ensures tt) (c .read .ensures .value) in
     let tree = message-read m closed-form in
     let right : c .can-build .result ≡ derives heard m =
-        ∥∥₁-elim (self .knows) (Bool-set (c .can-build .result) (derives heard m)) (λ known.
-            c .can-build .ensures (tree .0) (tree .1) (tree .2) ∙ same-decision heard m (tree .0) (tree .3) _ (now-known heard kept marks count (self .known .atoms) all there (same-atoms (getD marks count noMark .atoms) (self .known .atoms) (self .atoms)) full known)) in
+    ∥∥₁-elim (self .knows) (Bool-set (c .can-build .result) (derives heard m)) (λ known.
+    c .can-build .ensures (tree .0) (tree .1) (tree .2) ∙ same-decision heard m (tree .0) (tree .3) _ (now-known heard kept marks count (self .known .atoms) all there (same-atoms (getD marks count noMark .atoms) (self .known .atoms) (self .atoms)) full known)) in
     record {
       answer = ask-answered heard m derives (c .can-build .result) closed-form right;
       derived = λ e. decides-right heard m .0 (sym right ∙ (cc));

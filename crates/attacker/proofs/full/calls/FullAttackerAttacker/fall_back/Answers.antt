@@ -36,14 +36,13 @@ ghost-self-3 c =
     let is : mark ≡ getD marks n noMark = c .index-mark .ensures ∙ getD-default marks n mark noMark there in
     let heard′ : take n heard ≡ texts (vec-items (c .truncate .last .self)) = take-map messageText n (vec-items (self .messages)) ∙ sym (ap texts (c .truncate .ensures .items)) in
     let kept′ : take (getD marks n noMark .parts) kept ≡ texts (vec-items (c .truncate-2 .last .self)) =
-        ap (λ m. take (m .parts) kept) (sym is) ∙ take-map messageText (mark .parts) (vec-items (self .known .parts)) ∙ sym (ap texts (c .truncate-2 .ensures .items)) in
+    ap (λ m. take (m .parts) kept) (sym is) ∙ take-map messageText (mark .parts) (vec-items (self .known .parts)) ∙ sym (ap texts (c .truncate-2 .ensures .items)) in
     let marks′ : take (n + 1) marks ≡ vec-items (c .truncate-3 .last .self) = sym (c .truncate-3 .ensures .items) in
     let count : vec-len (c .truncate .last .self) ≡ n = omega (arith, c .truncate .ensures .len) in
     let last : getD (vec-items (c .truncate-3 .last .self)) (vec-len (c .truncate .last .self)) noMark ≡ mark =
-        (λ i. getD (sym marks′ i) (count i) noMark) ∙ last-back heard kept marks n there (self .rising) ∙ sym is in
+    (λ i. getD (sym marks′ i) (count i) noMark) ∙ last-back heard kept marks n there (self .rising) ∙ sym is in
     let kept-all : mark .parts ≡ vec-len (c .truncate-2 .last .self) =
-        omega (arith, ap (λ m. m .parts) is, self .rising n (vec-len (self .messages)) (omega arith) (omega (arith, self .each, self .marks .ok .0)), self .parts, c .truncate-2 .ensures .len) in
-    (
+    omega (arith, ap (λ m. m .parts) is, self .rising n (vec-len (self .messages)) (omega arith) (omega (arith, self .each, self .marks .ok .0)), self .parts, c .truncate-2 .ensures .len) in (
       omega (arith, self .room, c .truncate .ensures .capacity),
       (
         omega arith,
@@ -53,7 +52,7 @@ ghost-self-3 c =
             omega (arith, self .each, c .truncate-3 .ensures .len),
             (
               ∥∥₁-map (self .knows) (λ known. subst (λ m. AllKnown (texts (vec-items (c .truncate .last .self))) (texts (vec-items (c .truncate-2 .last .self))) m) marks′
-              (subst (λ k. AllKnown (texts (vec-items (c .truncate .last .self))) k (take (n + 1) marks)) kept′ (subst (λ l. AllKnown l (take (getD marks n noMark .parts) kept) (take (n + 1) marks)) heard′ (known-back heard kept marks n there (self .rising) known)))),
+                  (subst (λ k. AllKnown (texts (vec-items (c .truncate .last .self))) k (take (n + 1) marks)) kept′ (subst (λ l. AllKnown l (take (getD marks n noMark .parts) kept) (take (n + 1) marks)) heard′ (known-back heard kept marks n there (self .rising) known)))),
               (
                 subst (λ m. Roomy (texts (vec-items (c .truncate-2 .last .self))) m) marks′ (subst (λ k. Roomy k (take (n + 1) marks)) kept′ (roomy-back heard kept marks n there (self .rising) (self .roomy))),
                 (subst Rising marks′ (rising-back heard kept marks n there (self .rising)), (ap (λ m. m .atoms .bits) last, (ap (λ m. m .parts) last ∙ kept-all, tt))),

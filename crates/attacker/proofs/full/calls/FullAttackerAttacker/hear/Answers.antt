@@ -21,7 +21,7 @@ pub returns-then-len-ge128 : need.returns-then-len-ge128
 returns-then-len-ge128 c =
     let messages = c .args .self .now .messages in
     let list = map messageText (vec-items messages) in
-    let told = c .in-Some .ensures tt in
+    let told = c .in-Some .ensures tt .value in
     let full : 128 ≤ length list = omega (arith, length-map (vec-items messages) messageText, messages .ok .0) in
     record {
       answer = hear-full list (c .args .message .now) (told .0) full;
@@ -63,11 +63,10 @@ ghost-self-2 c =
     let marks′ : marks ++ mark ∷ [] ≡ vec-items (c .push-reserved-2 .last .self) = sym (c .push-reserved-2 .ensures .items) in
     let whole : mark .parts ≡ length (kept ++ fresh) = c .len-2 .ensures ∙ learnt .parts .ok .0 ∙ sym (length-map (vec-items (learnt .parts)) messageText) ∙ ap length (sym kept′) in
     let room : weights (mark .atoms) (kept ++ fresh) ≤ 11 * (count + 1) =
-        omega (arith, ap (weights (mark .atoms)) kept′, c .learn .ensures .room, now-roomy kept marks count (self .known .atoms) there atoms-now full (self .roomy), few-signs (tree .0) (tree .1), ap signs (tree .2)) in
+    omega (arith, ap (weights (mark .atoms)) kept′, c .learn .ensures .room, now-roomy kept marks count (self .known .atoms) there atoms-now full (self .roomy), few-signs (tree .0) (tree .1), ap signs (tree .2)) in
     let one-more : vec-len (c .push-reserved .last .self) ≡ count + 1 = c .push-reserved .ensures .len in
     let last : getD (vec-items (c .push-reserved-2 .last .self)) (vec-len (c .push-reserved .last .self)) noMark ≡ mark =
-        (λ i. getD (sym marks′ i) (one-more i) noMark) ∙ last-more heard kept fresh m marks mark count many all (self .rising) full whole in
-    (
+    (λ i. getD (sym marks′ i) (one-more i) noMark) ∙ last-more heard kept fresh m marks mark count many all (self .rising) full whole in (
       omega (arith, self .room, c .push-reserved .ensures .capacity),
       (
         omega arith,
@@ -99,7 +98,7 @@ pub returns : need.returns
 returns c =
     let messages = c .args .self .now .messages in
     let list = map messageText (vec-items messages) in
-    let told = c .in-Some .ensures tt in
+    let told = c .in-Some .ensures tt .value in
     let room : length list < 128 = omega (arith, length-map (vec-items messages) messageText, messages .ok .0) in
     record {
       answer = hear-taken list (c .args .message .now) (told .0) room;

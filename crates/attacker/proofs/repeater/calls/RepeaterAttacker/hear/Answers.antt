@@ -13,7 +13,7 @@ pub returns-then-len-ge128 : need.returns-then-len-ge128
 returns-then-len-ge128 c =
     let messages = c .args .self .now .messages in
     let list = map messageText (vec-items messages) in
-    let told = c .in-Some .ensures tt in
+    let told = c .in-Some .ensures tt .value in
     let full : 128 ≤ length list = omega (arith, length-map (vec-items messages) messageText, messages .ok .0) in
     record {
       answer = hear-full list (c .args .message .now) (told .0) full;
@@ -25,7 +25,7 @@ pub returns : need.returns
 returns c =
     let messages = c .args .self .now .messages in
     let list = map messageText (vec-items messages) in
-    let told = c .in-Some .ensures tt in
+    let told = c .in-Some .ensures tt .value in
     let room : length list < 128 = omega (arith, length-map (vec-items messages) messageText, messages .ok .0) in
     record {
       answer = hear-taken list (c .args .message .now) (told .0) room;
