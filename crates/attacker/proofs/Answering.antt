@@ -4,13 +4,17 @@ use mathlib.Core.List.{List, [], _∷_, _++_}
 use mathlib.Core.Bool.{Bool, true, false, cond, _&&_}
 use Prim.Native.Nat.{ℕ, _≤_, _<_}
 use lib.Dec.{leb, ltb}
-use lib.ListN.{length}
+use lib.ListN.{length, take}
 use borrow.Author.Tests.{lt-ltb, le-ltb, le-leb, lt-leb}
 use Rattle.std.specs.declared.result.Result.{Result}
 use Rattle.std.specs.declared.result.Result.the-variants.{Ok, Err}
 use Rattle.message.specs.declared.stop.Stop.{Stop}
 use Rattle.message.specs.declared.stop.Stop.the-variants.{NotClosedForm, HeardEnough, AboveCount}
+use Rattle.message.specs.declared.closed.Message.{Message}
+use Rattle.message.specs.Messages.{messageText}
 use Rattle.message.specs.Trees.{isMessage}
+use Rattle.std.proofs.shelf.Lists.{map-push, take-map}
+use Rattle.attacker.specs.Texts.{texts}
 use Rattle.attacker.specs.Calls.{hearAnswer, heardAfter, askAnswer, backAnswer}
 
 pub back-refused : (heard : List (List ℕ)) (n : ℕ) → length heard < n → Err AboveCount ≡ backAnswer heard n
@@ -54,3 +58,11 @@ module _ (heard : List (List ℕ)) (m : List ℕ) where
 
   pub ask-answered : (makes : List (List ℕ) → List ℕ → Bool) (r : Bool) → isMessage m ≡ true → r ≡ makes heard m → Ok r ≡ askAnswer makes heard m
   ask-answered makes r e is = ap Ok is ∙ ap (λ b. cond b (Ok (makes heard m)) (Err NotClosedForm)) (sym e)
+
+-- one message more on the list
+pub heard-more : (ms ms′ : List Message) (m : Message) (bytes : List ℕ) → ms′ ≡ ms ++ m ∷ [] → messageText m ≡ bytes → isMessage bytes ≡ true → length (texts ms) < 128 → texts ms′ ≡ heardAfter (texts ms) bytes
+heard-more ms ms′ m bytes more is closed room = ap texts more ∙ map-push messageText ms m ∙ ap (λ l. texts ms ++ l ∷ []) is ∙ list-taken (texts ms) bytes closed room
+
+-- the list cut off
+pub cut-off : (ms ms′ : List Message) (n : ℕ) → ms′ ≡ take n ms → texts ms′ ≡ take n (texts ms)
+cut-off ms ms′ n is = ap texts is ∙ sym (take-map messageText n ms)

@@ -7,7 +7,7 @@ use message::reader::same_bytes;
 
 // Whether `bytes` are those of one of the messages.
 pub fn stands_among(messages: &[Message], bytes: &[u8]) -> bool
-    ensures { λ r. ⌜ r ≡ has (texts (now (messages .entry))) (now (bytes .entry)) ⌝ }
+    ensures value { λ r. ⌜ r ≡ has (texts (now (messages .entry))) (now (bytes .entry)) ⌝ }
 {
     for message in messages {
         if same_bytes(message.bytes(), bytes) {

@@ -13,14 +13,14 @@ pub struct Atoms {
 impl Atoms {
     // No atom.
     pub fn none() -> Atoms
-        ensures { λ r. ⌜ ((b : ℕ) → within r b ≡ false) ⌝ }
+        ensures empty { λ r. ⌜ ((b : ℕ) → within r b ≡ false) ⌝ }
     {
         Atoms { bits: 0 }
     }
 
     // Whether the atom is in the set. A byte that is no atom never is.
     pub fn has(self, atom: u8) -> bool
-        ensures { λ r. ⌜ r ≡ within self atom ⌝ }
+        ensures value { λ r. ⌜ r ≡ within self atom ⌝ }
     {
         atom < 128 && self.bits >> atom & 1 == 1
     }

@@ -8,12 +8,12 @@ ghost use Rattle.attacker.specs.Calls.{hearAnswer, heardAfter, askAnswer, back
 ghost use Rattle.attacker.specs.Laws.{Monotone, Own};
 use message::stop::Stop;
 
-pub mod among;
-pub mod atoms;
+mod among;
+mod atoms;
 pub mod full;
-pub mod known;
+mod known;
 pub mod listening;
-pub mod mark;
+mod mark;
 pub mod repeater;
 
 // An attacker is the list of messages that it has heard, the oldest first, and the relation "can make" between such

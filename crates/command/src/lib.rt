@@ -29,7 +29,7 @@ pub enum Command {
 
 // What a line says, given without its final line feed. It fails only for want of memory.
 pub fn read_command(heap: Global, line: &[u8]) -> Result<Command, AllocError>
-    ensures { λ r. ⌜ made r (λ c. seen c ≡ commandOf (now (line .entry))) ⌝ }
+    ensures value { λ r. ⌜ made r (λ c. seen c ≡ commandOf (now (line .entry))) ⌝ }
 {
     match without_return(line) {
         [] | [b'#', ..] => Ok(Command::Nothing),
@@ -42,7 +42,7 @@ pub fn read_command(heap: Global, line: &[u8]) -> Result<Command, AllocError>
 
 // What the first word of a line says with the rest of it.
 fn read_words(heap: Global, word: &[u8], rest: &[u8]) -> Result<Command, AllocError>
-    ensures { λ r. ⌜ made r (λ c. seen c ≡ spoken (now (word .entry)) (now (rest .entry))) ⌝ }
+    ensures value { λ r. ⌜ made r (λ c. seen c ≡ spoken (now (word .entry)) (now (rest .entry))) ⌝ }
 {
     if is_same(word, b"hear") {
         match hex_bytes(heap, rest)? {
@@ -65,14 +65,14 @@ fn read_words(heap: Global, word: &[u8], rest: &[u8]) -> Result<Command, AllocEr
 }
 
 fn is_same(word: &[u8], name: &[u8]) -> bool
-    ensures { λ r. ⌜ r ≡ sameBytes (now (word .entry)) (now (name .entry)) ⌝ }
+    ensures value { λ r. ⌜ r ≡ sameBytes (now (word .entry)) (now (name .entry)) ⌝ }
 {
     word == name
 }
 
 // The line without a carriage return at its very end.
 fn without_return(line: &[u8]) -> &[u8]
-    ensures { λ r. ⌜ now r ≡ unreturned (now (line .entry)) ⌝ }
+    ensures value { λ r. ⌜ now r ≡ unreturned (now (line .entry)) ⌝ }
 {
     match line {
         [front @ .., b'\r'] => front,
@@ -81,7 +81,7 @@ fn without_return(line: &[u8]) -> &[u8]
 }
 
 fn is_blank(b: u8) -> bool
-    ensures { λ r. ⌜ r ≡ blank b ⌝ }
+    ensures value { λ r. ⌜ r ≡ blank b ⌝ }
 {
     matches!(b, b' ' | b'\t')
 }
@@ -123,7 +123,7 @@ fn skip_blanks(text: &[u8]) -> &[u8]
 
 // The bytes that a text writes in hexadecimal, with blanks around them.
 fn hex_bytes(heap: Global, text: &[u8]) -> Result<Option<Vec<u8>>, AllocError>
-    ensures { λ r. ⌜ made r (λ o. mapped vec-items o ≡ hexBytes (now (text .entry))) ⌝ }
+    ensures value { λ r. ⌜ made r (λ o. mapped vec-items o ≡ hexBytes (now (text .entry))) ⌝ }
 {
     let mut bytes = Vec::new(heap);
     let mut left = text;
@@ -143,7 +143,7 @@ fn hex_bytes(heap: Global, text: &[u8]) -> Result<Option<Vec<u8>>, AllocError>
 }
 
 fn hex_byte(high: u8, low: u8) -> Option<u8>
-    ensures { λ r. ⌜ r ≡ hexByte high low ⌝ }
+    ensures value { λ r. ⌜ r ≡ hexByte high low ⌝ }
 {
     Some(hex_digit(high)? * 16 + hex_digit(low)?)
 }
@@ -171,7 +171,7 @@ fn decimal_digit(b: u8) -> Option<u8>
 
 // The one number in a text, with nothing but blanks around it.
 fn number_in(text: &[u8]) -> Option<usize>
-    ensures { λ r. ⌜ r ≡ numberIn (now (text .entry)) ⌝ }
+    ensures value { λ r. ⌜ r ≡ numberIn (now (text .entry)) ⌝ }
 {
     let (digits, rest) = split_word(skip_blanks(text));
     match skip_blanks(rest) {
@@ -182,7 +182,7 @@ fn number_in(text: &[u8]) -> Option<usize>
 
 // The number that one or more digits write; the largest usize stands for all above it.
 fn decimal(digits: &[u8]) -> Option<usize>
-    ensures { λ r. ⌜ r ≡ mapped capped (numberOf (now (digits .entry))) ⌝ }
+    ensures value { λ r. ⌜ r ≡ mapped capped (numberOf (now (digits .entry))) ⌝ }
 {
     if digits.is_empty() {
         return None;

@@ -25,7 +25,7 @@ pub enum Symbol {
 
 // What `byte` stands for.
 pub fn symbol_of(byte: u8) -> Symbol
-    ensures { λ r. ⌜ r ≡ symbol byte ⌝ }
+    ensures value { λ r. ⌜ r ≡ symbol byte ⌝ }
 {
     match byte {
         0x00..=0x1F => Symbol::Atom(Kind::Name),
@@ -46,7 +46,7 @@ pub fn symbol_of(byte: u8) -> Symbol
 
 // The key that opens what `key` locks, or nothing where the byte is no key.
 pub fn inverse(key: u8) -> Option<u8>
-    ensures { λ r. ⌜ r ≡ inverseOf key ⌝ }
+    ensures value { λ r. ⌜ r ≡ inverseOf key ⌝ }
 {
     match symbol_of(key) {
         Symbol::Atom(Kind::SharedKey) => Some(key),

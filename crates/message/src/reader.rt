@@ -11,8 +11,8 @@ use crate::kind::Symbol;
 use crate::kind::symbol_of;
 
 // Whether `byte` may lock: a key, or a variable that stands for one.
-pub fn can_lock(byte: u8) -> bool
-    ensures { λ r. ⌜ r ≡ isLocking byte ⌝ }
+fn can_lock(byte: u8) -> bool
+    ensures value { λ r. ⌜ r ≡ isLocking byte ⌝ }
 {
     match symbol_of(byte) {
         Symbol::Atom(Kind::SharedKey | Kind::PairKey) => true,
@@ -22,8 +22,8 @@ pub fn can_lock(byte: u8) -> bool
 }
 
 // Whether `byte` is a variable.
-pub fn is_variable(byte: u8) -> bool
-    ensures { λ r. ⌜ r ≡ isVariable byte ⌝ }
+pub(crate) fn is_variable(byte: u8) -> bool
+    ensures value { λ r. ⌜ r ≡ isVariable byte ⌝ }
 {
     match symbol_of(byte) {
         Symbol::Variable(_) => true,
@@ -32,8 +32,8 @@ pub fn is_variable(byte: u8) -> bool
 }
 
 // Whether no byte is a variable.
-pub fn is_closed(bytes: &[u8]) -> bool
-    ensures { λ r. ⌜ r ≡ closed (now (bytes .entry)) ⌝ }
+pub(crate) fn is_closed(bytes: &[u8]) -> bool
+    ensures value { λ r. ⌜ r ≡ closed (now (bytes .entry)) ⌝ }
 {
     for byte in bytes {
         if is_variable(*byte) {
@@ -45,7 +45,7 @@ pub fn is_closed(bytes: &[u8]) -> bool
 
 // Whether two byte strings are the same.
 pub fn same_bytes(a: &[u8], b: &[u8]) -> bool
-    ensures { λ r. ⌜ r ≡ sameBytes (now (a .entry)) (now (b .entry)) ⌝ }
+    ensures value { λ r. ⌜ r ≡ sameBytes (now (a .entry)) (now (b .entry)) ⌝ }
 {
     a == b
 }

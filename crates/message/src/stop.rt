@@ -63,7 +63,7 @@ pub enum Stop {
 impl Stop {
     // The number under which this stop is listed.
     pub fn number(self) -> u8
-        ensures { λ r. ⌜ r ≡ numberOf self ⌝ }
+        ensures value { λ r. ⌜ r ≡ numberOf self ⌝ }
     {
         match self {
             Stop::FileTooLong => 1,

@@ -20,7 +20,7 @@ use std::alloc::Global;
 impl FullAttacker {
     // A full attacker that has heard nothing. Only this call asks for memory.
     pub fn new(heap: Global) -> Result<FullAttacker, AllocError>
-        ensures { λ r. ⌜ made r (λ a. texts (vec-items (a .messages)) ≡ []) ⌝ }
+        ensures starts_empty { λ r. ⌜ made r (λ a. texts (vec-items (a .messages)) ≡ []) ⌝ }
     {
         let messages = Vec::with_capacity(heap, 128)?;
         let parts = Vec::with_capacity(heap, 1408)?;
@@ -48,7 +48,7 @@ pub impl Attacker for FullAttacker as FullAttackerAttacker {
         let Some(message) = Message::read(message) else {
             return Err(Stop::NotClosedForm);
         };
-        if self.messages.len() >= 128 {
+        if self.count() >= 128 {
             return Err(Stop::HeardEnough);
         }
         self.known.learn(&message);
@@ -73,7 +73,7 @@ pub impl Attacker for FullAttacker as FullAttackerAttacker {
     }
 
     fn fall_back(&mut self, n: usize) -> Result<(), Stop> {
-        if n > self.messages.len() {
+        if n > self.count() {
             return Err(Stop::AboveCount);
         }
         let mark = self.marks[n];

@@ -13,7 +13,7 @@ use message::reader::form_length;
 impl Known {
     // Whether the bytes can be built from what is known, by joining and by locking with a key that is known.
     pub(crate) fn can_build(&self, part: &[u8]) -> bool
-        ensures { λ r. ⌜ ((t : Tree) → Closed-form t → write t ≡ now (part .entry) → r ≡ builds (knownBy (now (self .entry) .atoms) (texts (vec-items (now (self .entry) .parts)))) t) ⌝ }
+        ensures builds { λ r. ⌜ ((t : Tree) → Closed-form t → write t ≡ now (part .entry) → r ≡ builds (knownBy (now (self .entry) .atoms) (texts (vec-items (now (self .entry) .parts)))) t) ⌝ }
     {
         if part.len() < 1 {
             return false;

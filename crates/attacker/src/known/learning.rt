@@ -25,7 +25,7 @@ const LOCK: u8 = 0xF1;
 impl Atoms {
     // Whether what `key` locks can be opened with an atom of the set.
     pub fn opens_lock(self, key: u8) -> bool
-        ensures { λ r. ⌜ r ≡ opens (atomKnown self) key ⌝ }
+        ensures value { λ r. ⌜ r ≡ opens (atomKnown self) key ⌝ }
     {
         match inverse(key) {
             Some(opener) => self.has(opener),
@@ -37,7 +37,7 @@ impl Atoms {
 impl Known {
     // Keeps a part.
     fn keep(&mut self, part: &[u8])
-        requires { ⌜ vec-len (now self .parts) < 1408 ⌝ }
+        requires room { ⌜ vec-len (now self .parts) < 1408 ⌝ }
         ensures kept { λ _. ⌜ (isMessage (now (part .entry)) ≡ true → texts (vec-items (now (self .exit) .parts)) ≡ texts (vec-items (now (self .entry) .parts)) ++ now (part .entry) ∷ []) ⌝ }
         ensures few { λ _. ⌜ vec-len (now (self .exit) .parts) ≤ vec-len (now (self .entry) .parts) + 1 ⌝ }
         ensures atoms { λ _. ⌜ now (self .exit) .atoms ≡ now (self .entry) .atoms ⌝ }
@@ -49,7 +49,7 @@ impl Known {
 
     // Takes a message apart, and opens the locks in it that `opened` opens; keeps what comes out.
     fn absorb(&mut self, part: &[u8], opened: Atoms)
-        requires { ⌜ vec-len (now self .parts) + signs (now part) ≤ 1408 ⌝ }
+        requires room { ⌜ vec-len (now self .parts) + signs (now part) ≤ 1408 ⌝ }
         ensures absorbs { λ _. ⌜ Absorbs opened (now (part .entry)) (texts (vec-items (now (self .entry) .parts))) (texts (vec-items (now (self .exit) .parts))) (now (self .entry) .atoms) (now (self .exit) .atoms) ⌝ }
         ensures few { λ _. ⌜ vec-len (now (self .exit) .parts) ≤ vec-len (now (self .entry) .parts) + signs (now (part .entry)) ⌝ }
         ensures grows { λ _. ⌜ now (self .entry) .atoms .bits ≤ now (self .exit) .atoms .bits ⌝ }
@@ -78,7 +78,7 @@ impl Known {
 
     // Opens the part if it is a lock that `wider` opens and `opened` does not, and keeps what comes out.
     fn open_lock(&mut self, part: &[u8], opened: Atoms, wider: Atoms)
-        requires { ⌜ vec-len (now self .parts) + weight opened (now part) ≤ 1409 ⌝ }
+        requires room { ⌜ vec-len (now self .parts) + weight opened (now part) ≤ 1409 ⌝ }
         ensures opens { λ _. ⌜ When (opensNow opened wider (now (part .entry))) (Absorbs wider (drop 2 (now (part .entry))) (texts (vec-items (now (self .entry) .parts))) (texts (vec-items (now (self .exit) .parts))) (now (self .entry) .atoms) (now (self .exit) .atoms)) ((texts (vec-items (now (self .exit) .parts)) ≡ texts (vec-items (now (self .entry) .parts))) × (now (self .exit) .atoms ≡ now (self .entry) .atoms)) ⌝ }
         ensures grows { λ _. ⌜ now (self .entry) .atoms .bits ≤ now (self .exit) .atoms .bits ⌝ }
     {
@@ -109,7 +109,7 @@ impl Known {
 
     // Takes a message apart, and opens every lock, old or new, that what is then known opens.
     pub(crate) fn learn(&mut self, message: &Message)
-        requires { ⌜ weights (now self .atoms) (texts (vec-items (now self .parts))) + signs (messageText (now message)) ≤ 1408 ⌝ }
+        requires room { ⌜ weights (now self .atoms) (texts (vec-items (now self .parts))) + signs (messageText (now message)) ≤ 1408 ⌝ }
         ensures room { λ _. ⌜ weights (now (self .exit) .atoms) (texts (vec-items (now (self .exit) .parts))) ≡ weights (now (self .entry) .atoms) (texts (vec-items (now (self .entry) .parts))) + signs (messageText (now (message .entry))) ⌝ }
         ensures knows { λ _. ⌜ ((heard : List (List ℕ)) → Knowledge heard (knownBy (now (self .entry) .atoms) (texts (vec-items (now (self .entry) .parts)))) → Knowledge (heard ++ messageText (now (message .entry)) ∷ []) (knownBy (now (self .exit) .atoms) (texts (vec-items (now (self .exit) .parts))))) ⌝ }
         ensures keeps { λ _. ⌜ ((fresh : List (List ℕ)) × (texts (vec-items (now (self .exit) .parts)) ≡ texts (vec-items (now (self .entry) .parts)) ++ fresh)) ⌝ }

@@ -15,7 +15,7 @@ use std::alloc::Global;
 impl Repeater {
     // A repeater that has heard nothing. Only this call asks for memory.
     pub fn new(heap: Global) -> Result<Repeater, AllocError>
-        ensures { λ r. ⌜ made r (λ a. texts (vec-items (a .messages)) ≡ []) ⌝ }
+        ensures starts_empty { λ r. ⌜ made r (λ a. texts (vec-items (a .messages)) ≡ []) ⌝ }
     {
         let messages = Vec::with_capacity(heap, 128)?;
         Ok(Repeater { messages })
@@ -35,7 +35,7 @@ pub impl Attacker for Repeater as RepeaterAttacker {
         let Some(message) = Message::read(message) else {
             return Err(Stop::NotClosedForm);
         };
-        if self.messages.len() >= 128 {
+        if self.count() >= 128 {
             return Err(Stop::HeardEnough);
         }
         self.messages.push_reserved(message);
@@ -50,7 +50,7 @@ pub impl Attacker for Repeater as RepeaterAttacker {
     }
 
     fn fall_back(&mut self, n: usize) -> Result<(), Stop> {
-        if n > self.messages.len() {
+        if n > self.count() {
             return Err(Stop::AboveCount);
         }
         self.messages.truncate(n);

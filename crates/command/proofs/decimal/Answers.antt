@@ -15,8 +15,9 @@ returns-in-Break-digit c =
     let none =
     decimal-wrong (c .loop-b .n) digits (c .loop-b .b-index) (c .loop-b-test .taken)
     (c .in-Break-digit .ensures tt .value) in
-    c .from-residual .ensures ∙ sym (ap (mapped capped) none) ∙ c .loop-b .inv .0
-    ∙ ap (mapped capped) (number-some digits (omega arith))
+    record {
+      value = c .from-residual .ensures ∙ sym (ap (mapped capped) none) ∙ c .loop-b .inv .0 ∙ ap (mapped capped) (number-some digits (omega arith));
+    }
 
 pub loop-b-again : need.loop-b-again
 loop-b-again c =
@@ -35,5 +36,6 @@ returns c =
     let all = decimal-all (c .loop-b .n) digits (c .loop-b .b-index) (c .loop-b-test .left) in
     let fits : c .loop-b .n ≡ capped (c .loop-b .n) = omega arith in
     let some = eqb-false _ 0 (sym (c .if-is-empty .ensures tt)) in
-    ap Some fits ∙ sym (ap (mapped capped) all) ∙ c .loop-b .inv .0
-    ∙ ap (mapped capped) (number-some digits (omega (arith, some)))
+    record {
+      value = ap Some fits ∙ sym (ap (mapped capped) all) ∙ c .loop-b .inv .0 ∙ ap (mapped capped) (number-some digits (omega (arith, some)));
+    }

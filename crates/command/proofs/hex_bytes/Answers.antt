@@ -20,7 +20,7 @@ returns-in-empty c =
     let done = vec-items (c .loop-bytes .bytes) in
     let t = c .skip-blanks .result .now in
     let none = hex-none (c .loop-bytes .left .now) t (c .skip-blanks .ensures .value) (omega (arith, ltb-true)) in
-    ap Some (sym (append-nil done)) ∙ sym (ap (mapped (before done)) none) ∙ c .loop-bytes .inv
+    record { value = ap Some (sym (append-nil done)) ∙ sym (ap (mapped (before done)) none) ∙ c .loop-bytes .inv }
 
 pub returns-in-len1 : need.returns-in-len1
 returns-in-len1 c =
@@ -29,7 +29,7 @@ returns-in-len1 c =
     let none =
     hex-odd (c .loop-bytes .left .now) t (c .skip-blanks .ensures .value)
     (omega (arith, ltb-false)) (omega (arith, ltb-true)) in
-    sym (ap (mapped (before done)) none) ∙ c .loop-bytes .inv
+    record { value = sym (ap (mapped (before done)) none) ∙ c .loop-bytes .inv }
 
 pub returns-in-None : need.returns-in-None
 returns-in-None c =
@@ -37,8 +37,8 @@ returns-in-None c =
     let t = c .skip-blanks .result .now in
     let none =
     hex-wrong (c .loop-bytes .left .now) t (c .skip-blanks .ensures .value)
-    (omega (arith, ltb-false)) (c .in-None .ensures tt) in
-    sym (ap (mapped (before done)) none) ∙ c .loop-bytes .inv
+    (omega (arith, ltb-false)) (c .in-None .ensures tt .value) in
+    record { value = sym (ap (mapped (before done)) none) ∙ c .loop-bytes .inv }
 
 pub loop-bytes-again : need.loop-bytes-again
 loop-bytes-again c =
@@ -46,7 +46,7 @@ loop-bytes-again c =
     let t = c .skip-blanks .result .now in
     let more =
     hex-more done (c .loop-bytes .left .now) t (c .in-Some .byte) (c .skip-blanks .ensures .value)
-    (omega (arith, ltb-false)) (c .in-Some .ensures tt) in
+    (omega (arith, ltb-false)) (c .in-Some .ensures tt .value) in
     rw (c .in-Continue-push .ensures tt .items) (more ∙ c .loop-bytes .inv)
 
 pub loop-bytes-less : need.loop-bytes-less

@@ -8,4 +8,4 @@ returns c =
     let word = c .args .word .now in
     let name = c .args .name .now in
     let tested = matches-decides word name (c .eq .result) (c .eq .ensures) in
-    same-from-decides (c .eq .result) (sameBytes word name) tested (sameBytes-decides word name)
+    record { value = same-from-decides (c .eq .result) (sameBytes word name) tested (sameBytes-decides word name) }

@@ -7,7 +7,7 @@ use Rattle.command.proofs.skip_blanks.Needs as need
 
 pub loop-left-again : need.loop-left-again
 loop-left-again c = (
-  unblanked-more (c .loop-left .left .now) (omega (arith, ltb-false)) (c .if-is-blank .ensures tt)
+  unblanked-more (c .loop-left .left .now) (omega (arith, ltb-false)) (c .if-is-blank .ensures tt .value)
       ∙ c .loop-left .inv .0,
   search needs,
 )
@@ -22,6 +22,6 @@ returns-then-left-lt1 c =
 pub returns-else-is-blank : need.returns-else-is-blank
 returns-else-is-blank c =
     record {
-      value = sym (unblanked-stops (c .loop-left .left .now) (c .if-is-blank .ensures tt)) ∙ c .loop-left .inv .0;
+      value = sym (unblanked-stops (c .loop-left .left .now) (c .if-is-blank .ensures tt .value)) ∙ c .loop-left .inv .0;
       within = c .loop-left .inv .1;
     }

@@ -7,14 +7,15 @@ ghost use Rattle.message.specs.Messages.{messageText, OneMessage};
 ghost use Rattle.message.specs.Trees.{Tree, write, closed, isMessage, Fits};
 use crate::closed::Message;
 use crate::form::Form;
+use crate::reader::is_closed;
 use crate::reader::same_bytes;
 
 impl Form {
     // The form as a message, where it has no variable.
     pub fn message(self) -> Option<Message>
-        ensures { λ r. ⌜ Cases r (closed (text self) ≡ false) (λ m. (closed (text self) ≡ true) × (messageText m ≡ text self)) ⌝ }
+        ensures cases { λ r. ⌜ Cases r (closed (text self) ≡ false) (λ m. (closed (text self) ≡ true) × (messageText m ≡ text self)) ⌝ }
     {
-        if self.is_closed() {
+        if is_closed(self.bytes()) {
             Some(Message { form: self })
         } else {
             None
@@ -36,7 +37,7 @@ impl Message {
 
     // The message as a form.
     pub fn form(&self) -> Form
-        ensures { λ r. ⌜ r ≡ now (self .entry) .form ⌝ }
+        ensures value { λ r. ⌜ r ≡ now (self .entry) .form ⌝ }
     {
         let Message { form } = *self;
         form
@@ -44,7 +45,7 @@ impl Message {
 
     // The bytes of the message.
     pub fn bytes(&self) -> &[u8]
-        ensures { λ r. ⌜ now r ≡ messageText (now (self .entry)) ⌝ }
+        ensures value { λ r. ⌜ now r ≡ messageText (now (self .entry)) ⌝ }
     {
         self.form.bytes()
     }

@@ -6,17 +6,16 @@ ghost use Rattle.std.specs.Results.{Cases};
 ghost use Rattle.std.specs.shelf.Text.{sameBytes};
 ghost use Rattle.message.specs.declared.stop.Stop.the-variants.{NotOneForm};
 ghost use Rattle.message.specs.Forms.{text, padding, OneForm};
-ghost use Rattle.message.specs.Trees.{Tree, write, isForm, closed, Fits, OneReading};
+ghost use Rattle.message.specs.Trees.{Tree, write, isForm, Fits, OneReading};
 use crate::form::Form;
 use crate::reader::form_length;
-use crate::reader::is_closed;
 use crate::reader::same_bytes;
 use crate::stop::Stop;
 
 // The bytes, and zeros after them.
 fn pad(bytes: &[u8]) -> [u8; 24]
-    requires { ⌜ length (now bytes) ≤ 24 ⌝ }
-    ensures { λ r. ⌜ r ≡ padding (now (bytes .entry)) ⌝ }
+    requires short { ⌜ length (now bytes) ≤ 24 ⌝ }
+    ensures value { λ r. ⌜ r ≡ padding (now (bytes .entry)) ⌝ }
 {
     let mut padded = [0; 24];
     for (i, byte) in bytes.iter().enumerate() {
@@ -51,13 +50,6 @@ impl Form {
         ensures value { λ r. ⌜ now r ≡ text (now (self .entry)) ⌝ }
     {
         &self.bytes[0..self.len as usize]
-    }
-
-    // Whether no variable stands in the form, so that it is a message.
-    pub fn is_closed(&self) -> bool
-        ensures value { λ r. ⌜ r ≡ closed (text (now (self .entry))) ⌝ }
-    {
-        is_closed(self.bytes())
     }
 }
 

@@ -23,17 +23,17 @@ pub returns-then-same-bytes : need.returns-then-same-bytes
 returns-then-same-bytes c =
     let ms = c .args .messages .now in
     let bytes = c .args .bytes .now in
-    let told : true ≡ sameBytes (messageText (c .message-item .result)) bytes = c .if-same-bytes .ensures tt ∙ ap (λ l. sameBytes l bytes) (c .bytes .ensures) in
-    sym (one-more ms bytes (c .loop-message .message-index) (c .message-item .result) true (c .loop-message-test .taken) (c .message-item .is) told) ∙ c .loop-message .inv
+    let told : true ≡ sameBytes (messageText (c .message-item .result)) bytes = c .if-same-bytes .ensures tt .value ∙ ap (λ l. sameBytes l bytes) (c .bytes .ensures .value) in
+    record { value = sym (one-more ms bytes (c .loop-message .message-index) (c .message-item .result) true (c .loop-message-test .taken) (c .message-item .is) told) ∙ c .loop-message .inv }
 
 pub loop-message-again : need.loop-message-again
 loop-message-again c =
     let ms = c .args .messages .now in
     let bytes = c .args .bytes .now in
-    let told : false ≡ sameBytes (messageText (c .message-item .result)) bytes = c .if-same-bytes .ensures tt ∙ ap (λ l. sameBytes l bytes) (c .bytes .ensures) in
+    let told : false ≡ sameBytes (messageText (c .message-item .result)) bytes = c .if-same-bytes .ensures tt .value ∙ ap (λ l. sameBytes l bytes) (c .bytes .ensures .value) in
     sym (one-more ms bytes (c .loop-message .message-index) (c .message-item .result) false (c .loop-message-test .taken) (c .message-item .is) told) ∙ c .loop-message .inv
 
 pub returns : need.returns
 returns c =
     let bytes = c .args .bytes .now in
-    sym (at-drop-all (λ l. has (texts l) bytes) (c .args .messages .now) (c .loop-message .message-index) (c .loop-message-test .left)) ∙ c .loop-message .inv
+    record { value = sym (at-drop-all (λ l. has (texts l) bytes) (c .args .messages .now) (c .loop-message .message-index) (c .loop-message-test .left)) ∙ c .loop-message .inv }

@@ -35,7 +35,7 @@ returns g c =
     let makes = g .A·Attacker .makes (c .args .attacker .now) in
     let fit = they-fit list more (c .in-Continue-hear-all .field-0) (sym (c .hear-all .ensures .answer) ∙ c .in-Continue-hear-all .was tt) in
     let all : g .A·Attacker .heard (c .hear-all .last .attacker) ≡ list ++ more = c .hear-all .ensures .list ∙ ap (λ b. cond b (list ++ more) list) fit in
-    let asked : c .ask-answer .result ≡ askAnswer makes (list ++ more) (messageText question) = c .ask-answer .ensures .answer ∙ (λ i. askAnswer (c .hear-all .ensures .relation i) (all i) (c .bytes .ensures i)) in
+    let asked : c .ask-answer .result ≡ askAnswer makes (list ++ more) (messageText question) = c .ask-answer .ensures .answer ∙ (λ i. askAnswer (c .hear-all .ensures .relation i) (all i) (c .bytes .ensures .value i)) in
     record {
       answer = asked ∙ sym (ask-answered (list ++ more) (messageText question) makes (makes (list ++ more) (messageText question)) (message-is question) refl) ∙ ap (λ b. cond b (Ok (makes (list ++ more) (messageText question))) (Err HeardEnough)) (sym fit);
       list = c .fall-back .ensures .list ∙ (λ i. take (c .count-count .ensures .value i) (all i)) ∙ take-at list more (length list) refl;

@@ -55,7 +55,7 @@ returns-in-Break-hear g c =
     let list = g .A·Attacker .heard (c .args .attacker .now) in
     let ms = c .args .messages .now in
     let fit : length list + length ms ≤ 128 = omega (arith, c .count .ensures .value, c .count .ensures .few) in
-    let taken = next-taken list (g .A·Attacker .heard (c .loop-message .attacker)) ms (c .loop-message .message-index) (c .message-item .result) (c .bytes .result .now) fit (c .loop-message-test .taken) (c .loop-message .inv .0) (c .message-item .is) (c .bytes .ensures) in
+    let taken = next-taken list (g .A·Attacker .heard (c .loop-message .attacker)) ms (c .loop-message .message-index) (c .message-item .result) (c .bytes .result .now) fit (c .loop-message-test .taken) (c .loop-message .inv .0) (c .message-item .is) (c .bytes .ensures .value) in
     let both : Ok tt ≡ Err (c .in-Break-hear .field-0 .0) = taken ∙ sym (c .hear .ensures .answer) ∙ c .in-Break-hear .was tt in
     let z : _≡_ {A = ℕ} 0 1 = cc in
     absurd (omega arith)
@@ -65,7 +65,7 @@ loop-message-again g c =
     let list = g .A·Attacker .heard (c .args .attacker .now) in
     let ms = c .args .messages .now in
     let fit : length list + length ms ≤ 128 = omega (arith, c .count .ensures .value, c .count .ensures .few) in (
-      c .hear .ensures .list ∙ next-list list (g .A·Attacker .heard (c .loop-message .attacker)) ms (c .loop-message .message-index) (c .message-item .result) (c .bytes .result .now) fit (c .loop-message-test .taken) (c .loop-message .inv .0) (c .message-item .is) (c .bytes .ensures),
+      c .hear .ensures .list ∙ next-list list (g .A·Attacker .heard (c .loop-message .attacker)) ms (c .loop-message .message-index) (c .message-item .result) (c .bytes .result .now) fit (c .loop-message-test .taken) (c .loop-message .inv .0) (c .message-item .is) (c .bytes .ensures .value),
       c .hear .ensures .relation ∙ c .loop-message .inv .1,
     )
 

@@ -14,14 +14,14 @@ returns-then-is-variable c =
     let bs = c .args .bytes .now in
     let i = c .loop-byte .byte-index in
     let b = getD bs i 0 in
-    sym (closed-stops b (drop (i + 1) bs) (sym (c .if-is-variable .ensures tt))) ∙ sym (at-drop-more closed bs i 0 (c .loop-byte-test .taken)) ∙ c .loop-byte .inv
+    record { value = sym (closed-stops b (drop (i + 1) bs) (sym (c .if-is-variable .ensures tt .value))) ∙ sym (at-drop-more closed bs i 0 (c .loop-byte-test .taken)) ∙ c .loop-byte .inv }
 
 pub loop-byte-again : need.loop-byte-again
 loop-byte-again c =
     let bs = c .args .bytes .now in
     let i = c .loop-byte .byte-index in
     let b = getD bs i 0 in
-    sym (closed-on b (drop (i + 1) bs) (sym (c .if-is-variable .ensures tt))) ∙ sym (at-drop-more closed bs i 0 (c .loop-byte-test .taken)) ∙ c .loop-byte .inv
+    sym (closed-on b (drop (i + 1) bs) (sym (c .if-is-variable .ensures tt .value))) ∙ sym (at-drop-more closed bs i 0 (c .loop-byte-test .taken)) ∙ c .loop-byte .inv
 
 pub returns : need.returns
-returns c = sym (at-drop-all closed (c .args .bytes .now) (c .loop-byte .byte-index) (c .loop-byte-test .left)) ∙ c .loop-byte .inv
+returns c = record { value = sym (at-drop-all closed (c .args .bytes .now) (c .loop-byte .byte-index) (c .loop-byte-test .left)) ∙ c .loop-byte .inv }

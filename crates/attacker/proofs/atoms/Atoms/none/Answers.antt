@@ -3,4 +3,4 @@ use Rattle.attacker.proofs.Bitset.{within-none}
 use Rattle.attacker.proofs.atoms.Atoms.none.Needs as need
 
 pub returns : need.returns
-returns c = within-none (record { bits = 0 }) refl
+returns c = record { empty = within-none (record { bits = 0 }) refl }

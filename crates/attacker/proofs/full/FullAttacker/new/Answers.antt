@@ -12,7 +12,7 @@ use Rattle.attacker.proofs.full.FullAttacker.new.Needs as need
 pub ghost-result-2 : need.ghost-result-2
 ghost-result-2 c =
     let none = c .none-atoms .result in
-    let empty = c .none-atoms .ensures in
+    let empty = c .none-atoms .ensures .empty in
     let messages = c .in-Continue-messages .messages in
     let parts = c .in-Continue-parts .parts in
     let marks = c .push-reserved .last .self in

@@ -24,10 +24,10 @@ returns-then-part-lt1 t c =
     record { absorbs = absorb-nothing (c .args .opened) (c .args .part .now) (texts (vec-items (self .parts))) (self .atoms) (omega arith); few = omega arith; grows = omega arith }
 
 pub keep-requires : need.keep-requires
-keep-requires t c κs = omega (arith, signs-join (c .args .part .now) (omega arith) (sym (c .in-Join .ensures tt)), c .pre)
+keep-requires t c κs = omega (arith, signs-join (c .args .part .now) (omega arith) (sym (c .in-Join .ensures tt .value)), c .pre .room)
 
 pub keep-requires-in-Lock : need.keep-requires-in-Lock
-keep-requires-in-Lock t c κs = omega (arith, signs-lock (c .args .part .now) (omega arith) (sym (c .in-Lock .ensures tt)), c .pre)
+keep-requires-in-Lock t c κs = omega (arith, signs-lock (c .args .part .now) (omega arith) (sym (c .in-Lock .ensures tt .value)), c .pre .room)
 
 -- the room of the halves and of what is locked
 halves : (bs : List ℕ) (l : ℕ) → 0 < length bs → symbol (getD bs 0 0) ≡ Join → signs bs ≡ 1 + (signs (take (1 + l - 1) (drop 1 bs)) + signs (take (length bs - (1 + l)) (drop (1 + l) bs)))
@@ -41,28 +41,28 @@ pub absorb-requires : need.absorb-requires
 absorb-requires t c κs =
     let bs = c .args .part .now in
     let l = c .in-Some .left in
-    let cut = halves bs l (omega arith) (sym (c .in-Join .ensures tt)) in
-    (omega (arith, length-take (1 + l - 1) (drop 1 bs), length-drop 1 bs), omega (arith, cut, c .pre, c .keep .ensures .few))
+    let cut = halves bs l (omega arith) (sym (c .in-Join .ensures tt .value)) in
+    (omega (arith, length-take (1 + l - 1) (drop 1 bs), length-drop 1 bs), omega (arith, cut, c .pre .room, c .keep .ensures .few))
 
 pub absorb-requires-in-Some : need.absorb-requires-in-Some
 absorb-requires-in-Some t c κs =
     let bs = c .args .part .now in
     let l = c .in-Some .left in
-    let cut = halves bs l (omega arith) (sym (c .in-Join .ensures tt)) in
-    (omega (arith, ap length (take-rest bs (1 + l)), length-drop (1 + l) bs), omega (arith, cut, c .pre, c .keep .ensures .few, c .absorb .ensures .few))
+    let cut = halves bs l (omega arith) (sym (c .in-Join .ensures tt .value)) in
+    (omega (arith, ap length (take-rest bs (1 + l)), length-drop (1 + l) bs), omega (arith, cut, c .pre .room, c .keep .ensures .few, c .absorb .ensures .few))
 
 pub absorb-requires-then-opens-lock : need.absorb-requires-then-opens-lock
 absorb-requires-then-opens-lock t c κs =
     let bs = c .args .part .now in
-    let cut = inside bs (omega arith) (sym (c .in-Lock .ensures tt)) in
-    (omega (arith, ap length (take-rest bs 2), length-drop 2 bs), omega (arith, cut, c .pre, c .keep-in-Lock .ensures .few))
+    let cut = inside bs (omega arith) (sym (c .in-Lock .ensures tt .value)) in
+    (omega (arith, ap length (take-rest bs 2), length-drop 2 bs), omega (arith, cut, c .pre .room, c .keep-in-Lock .ensures .few))
 
 pub returns-in-Atom : need.returns-in-Atom
 returns-in-Atom t c =
     let self = c .args .self .now in
     let bs = c .args .part .now in
     record {
-      absorbs = absorb-atom (c .args .opened) bs (texts (vec-items (self .parts))) (self .atoms) (c .add .last .self) (c .in-Atom .field-0) (sym (c .in-Atom .ensures tt)) (c .add .ensures .members);
+      absorbs = absorb-atom (c .args .opened) bs (texts (vec-items (self .parts))) (self .atoms) (c .add .last .self) (c .in-Atom .field-0) (sym (c .in-Atom .ensures tt .value)) (c .add .ensures .members);
       few = omega arith;
       grows = c .add .ensures .grows;
     }
@@ -72,7 +72,7 @@ returns-in-Some t c =
     let self = c .args .self .now in
     let bs = c .args .part .now in
     let l = c .in-Some .left in
-    let at = sym (c .in-Join .ensures tt) in
+    let at = sym (c .in-Join .ensures tt .value) in
     let first = c .absorb .ensures in
     let second = c .absorb-in-Some .ensures in
     let kept = texts (vec-items (self .parts)) in
@@ -93,7 +93,7 @@ pub returns-in-rest : need.returns-in-rest
 returns-in-rest t c =
     let self = c .args .self .now in
     let bs = c .args .part .now in
-    let at = sym (c .in-Join .ensures tt) in
+    let at = sym (c .in-Join .ensures tt .value) in
     record {
       absorbs = absorb-unread (c .args .opened) bs (texts (vec-items (self .parts))) (texts (vec-items (c .keep .last .self .parts))) (self .atoms) (c .keep .ensures .kept) at
           (subst (λ l. Says l None) (take-rest bs 1) (c .in-rest .ensures tt .reads)) (texts (vec-items (c .keep .last .self .parts))) (c .keep .last .self .atoms);
@@ -105,13 +105,13 @@ pub returns-then-opens-lock : need.returns-then-opens-lock
 returns-then-opens-lock t c =
     let self = c .args .self .now in
     let bs = c .args .part .now in
-    let at = sym (c .in-Lock .ensures tt) in
+    let at = sym (c .in-Lock .ensures tt .value) in
     let body = c .absorb-then-opens-lock .ensures in
     let kept₁ = texts (vec-items (c .keep-in-Lock .last .self .parts)) in
     let kept₂ = texts (vec-items (c .absorb-then-opens-lock .last .self .parts)) in
     let same = c .keep-in-Lock .ensures .atoms in
     record {
-      absorbs = absorb-opened (c .args .opened) bs (texts (vec-items (self .parts))) kept₁ (self .atoms) (c .keep-in-Lock .ensures .kept) at (sym (c .if-opens-lock .ensures tt)) kept₂ (c .absorb-then-opens-lock .last .self .atoms)
+      absorbs = absorb-opened (c .args .opened) bs (texts (vec-items (self .parts))) kept₁ (self .atoms) (c .keep-in-Lock .ensures .kept) at (sym (c .if-opens-lock .ensures tt .value)) kept₂ (c .absorb-then-opens-lock .last .self .atoms)
           (subst (λ l. Absorbs (c .args .opened) l kept₁ kept₂ (self .atoms) (c .absorb-then-opens-lock .last .self .atoms)) (take-rest bs 2) (subst (λ a. Absorbs (c .args .opened) (take (length bs - 2) (drop 2 bs)) kept₁ kept₂ a (c .absorb-then-opens-lock .last .self .atoms)) same (body .absorbs)));
       few = omega (arith, inside bs (omega arith) at, c .keep-in-Lock .ensures .few, body .few);
       grows = omega (arith, ap (λ a. a .bits) same, body .grows);
@@ -121,13 +121,13 @@ pub returns-else-part-gt1 : need.returns-else-part-gt1
 returns-else-part-gt1 t c =
     let self = c .args .self .now in
     let bs = c .args .part .now in
-    let at = sym (c .in-Lock .ensures tt) in
+    let at = sym (c .in-Lock .ensures tt .value) in
     let kept = texts (vec-items (self .parts)) in
     let kept₁ = texts (vec-items (c .keep-in-Lock .last .self .parts)) in
     let same = c .keep-in-Lock .ensures .atoms in
     let shut : 1 < length bs → opens (atomKnown (c .args .opened)) (getD bs 1 0) ≡ false =
     λ long. elim (c .else-part-gt1 .came) [
-      | else-part-gt1·by·then-part-gt1·else-opens-lock w ↦ sym (w .opens-lock .ensures) ∙ w .if-opens-lock .left
+      | else-part-gt1·by·then-part-gt1·else-opens-lock w ↦ sym (w .opens-lock .ensures .value) ∙ w .if-opens-lock .left
       | else-part-gt1·by·else-part-gt1 w ↦ absurd (omega (arith, w .if-part-gt1 .left))
     ]
     in
@@ -142,5 +142,5 @@ returns-in-Variable t c =
     let self = c .args .self .now in
     let bs = c .args .part .now in
     let kept = texts (vec-items (self .parts)) in
-    let at = subst (λ s. (standsForAtom s ≡ false) × (s ≡ Join → ⊥) × (s ≡ Lock → ⊥)) (c .symbol-of .ensures) (other-byte (c .symbol-of .result) (c .in-Variable .is)) in
+    let at = subst (λ s. (standsForAtom s ≡ false) × (s ≡ Join → ⊥) × (s ≡ Lock → ⊥)) (c .symbol-of .ensures .value) (other-byte (c .symbol-of .result) (c .in-Variable .is)) in
     record { absorbs = absorb-other (c .args .opened) bs kept (self .atoms) kept (self .atoms) (at .0) (at .1) (at .2); few = omega arith; grows = omega arith }

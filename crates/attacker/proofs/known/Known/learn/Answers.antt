@@ -18,7 +18,7 @@ use Rattle.attacker.proofs.known.Known.learn.Needs as need
 pub absorb-requires : need.absorb-requires
 absorb-requires c κs =
     let parts = c .args .self .now .parts in
-    omega (arith, c .pre, weights-long (c .args .self .now .atoms) (texts (vec-items parts)), length-map (vec-items parts) messageText, parts .ok .0, ap signs (c .bytes .ensures))
+    omega (arith, c .pre .room, weights-long (c .args .self .now .atoms) (texts (vec-items parts)), length-map (vec-items parts) messageText, parts .ok .0, ap signs (c .bytes .ensures .value))
 
 pub loop-opened-holds : need.loop-opened-holds
 loop-opened-holds c =
@@ -27,7 +27,7 @@ loop-opened-holds c =
     let kept = texts (vec-items (self .parts)) in
     let kept′ = texts (vec-items (c .absorb .last .self .parts)) in
     let atoms′ = c .absorb .last .self .atoms in
-    let took = subst (λ l. Absorbs (self .atoms) l kept kept′ (self .atoms) atoms′) (c .bytes .ensures ∙ sym (tree .2)) (c .absorb .ensures .absorbs) in
+    let took = subst (λ l. Absorbs (self .atoms) l kept kept′ (self .atoms) atoms′) (c .bytes .ensures .value ∙ sym (tree .2)) (c .absorb .ensures .absorbs) in
     (c .absorb .ensures .grows, opening-starts (self .atoms) kept′ atoms′ (λ b h. known-still (self .atoms) (tree .0) (tree .1) kept kept′ (self .atoms) atoms′ took (atom b) h))
 
 pub open-locks-requires : need.open-locks-requires
@@ -37,9 +37,9 @@ open-locks-requires c κs =
     let kept = texts (vec-items (self .parts)) in
     let kept′ = texts (vec-items (c .absorb .last .self .parts)) in
     let atoms′ = c .absorb .last .self .atoms in
-    let took = subst (λ l. Absorbs (self .atoms) l kept kept′ (self .atoms) atoms′) (c .bytes .ensures ∙ sym (tree .2)) (c .absorb .ensures .absorbs) in
+    let took = subst (λ l. Absorbs (self .atoms) l kept kept′ (self .atoms) atoms′) (c .bytes .ensures .value ∙ sym (tree .2)) (c .absorb .ensures .absorbs) in
     record {
-      room = omega (arith, c .pre, c .loop-opened .inv .1 .room, room-after (self .atoms) (tree .0) (tree .1) kept kept′ (self .atoms) atoms′ took, ap signs (tree .2));
+      room = omega (arith, c .pre .room, c .loop-opened .inv .1 .room, room-after (self .atoms) (tree .0) (tree .1) kept kept′ (self .atoms) atoms′ took, ap signs (tree .2));
       inside = c .loop-opened .inv .1 .inside;
     }
 
@@ -69,7 +69,7 @@ returns c =
     let kept = texts (vec-items (c .loop-opened .self .parts)) in
     let atoms = c .loop-opened .self .atoms in
     let opening = c .loop-opened .inv .1 in
-    let took = subst (λ l. Absorbs (self .atoms) l kept₀ kept₁ (self .atoms) atoms₁) (c .bytes .ensures ∙ sym (tree .2)) (c .absorb .ensures .absorbs) in
+    let took = subst (λ l. Absorbs (self .atoms) l kept₀ kept₁ (self .atoms) atoms₁) (c .bytes .ensures .value ∙ sym (tree .2)) (c .absorb .ensures .absorbs) in
     let same : c .loop-opened .opened ≡ atoms = same-atoms (c .loop-opened .opened) atoms (agree (c .loop-opened .opened .bits) (atoms .bits) (c .ne .result) (c .ne .ensures) (c .loop-opened-test .left)) in
     let grown = took .keeps (tree .0) (tree .1) refl in
     record {

@@ -26,7 +26,7 @@ open-lock-requires c κs =
     let many = length-map (vec-items start) messageText in
     let inside-start : c .loop-i .i < length (texts (vec-items start)) = omega (arith, many, start .ok .0) in
     let at : getD (texts (vec-items now-parts)) (c .loop-i .i) [] ≡ messageText item = getD-map messageText (vec-items now-parts) (c .loop-i .i) item [] (omega (arith, now-parts .ok .0)) ∙ ap messageText (sym (c .index .ensures)) in
-    omega (arith, scan-room (c .args .opened) (c .args .wider) (texts (vec-items start)) (c .args .self .now .atoms) (c .pre .inside) (c .loop-i .i) (texts (vec-items now-parts)) (c .loop-i .self .atoms) scan inside-start (messageText item) at (c .pre .room), ap (weight (c .args .opened)) (c .bytes .ensures), length-map (vec-items now-parts) messageText, now-parts .ok .0)
+    omega (arith, scan-room (c .args .opened) (c .args .wider) (texts (vec-items start)) (c .args .self .now .atoms) (c .pre .inside) (c .loop-i .i) (texts (vec-items now-parts)) (c .loop-i .self .atoms) scan inside-start (messageText item) at (c .pre .room), ap (weight (c .args .opened)) (c .bytes .ensures .value), length-map (vec-items now-parts) messageText, now-parts .ok .0)
 
 pub loop-i-again : need.loop-i-again
 loop-i-again c =
@@ -44,7 +44,7 @@ loop-i-again c =
     let inside-start : i < length start = omega (arith, many, self .parts .ok .0) in
     let at : getD kept i [] ≡ m = getD-map messageText (vec-items now-parts) i item [] (omega (arith, now-parts .ok .0)) ∙ ap messageText (sym (c .index .ensures)) in
     let tree = message-tree item in
-    let told = subst (λ l. When (opensNow (c .args .opened) (c .args .wider) l) (Absorbs (c .args .wider) (drop 2 l) kept kept′ atoms atoms′) ((kept′ ≡ kept) × (atoms′ ≡ atoms))) (c .bytes .ensures) (c .open-lock .ensures .opens) in
+    let told = subst (λ l. When (opensNow (c .args .opened) (c .args .wider) l) (Absorbs (c .args .wider) (drop 2 l) kept kept′ atoms atoms′) ((kept′ ≡ kept) × (atoms′ ≡ atoms))) (c .bytes .ensures .value) (c .open-lock .ensures .opens) in
     let scan = scan-step (c .args .opened) (c .args .wider) start (self .atoms) (c .pre .inside) i kept atoms (c .loop-i .inv .3) inside-start m at (tree .0) (tree .1) (tree .2) kept′ atoms′ told in (
       omega arith,
       omega (arith, ap length (scan .kept-is), length-append start (scan .fresh), many, self .parts .ok .0, length-map (vec-items (c .open-lock .last .self .parts)) messageText, c .open-lock .last .self .parts .ok .0),

@@ -20,7 +20,7 @@ taken bs n short all says = all-read bs short (subst (λ n. Says bs (Some n)) al
 pub ghost-result : need.ghost-result
 ghost-result c =
     let bs = c .args .bytes .now in
-    let is = c .pad .ensures in
+    let is = c .pad .ensures .value in
     let front = ap (take (length bs)) is ∙ pad-front bs in
     let form = taken bs (c .in-Some .n) (omega arith) (c .if-n-len .taken) (c .in-Some .ensures tt .reads) in (
       ap length is ∙ pad-length bs (omega arith),
@@ -32,7 +32,7 @@ returns-in-Some c =
     let bs = c .args .bytes .now in
     let form = taken bs (c .in-Some .n) (omega arith) (c .if-n-len .taken) (c .in-Some .ensures tt .reads) in
     record {
-      value = (form, ap (take (length bs)) (c .pad .ensures) ∙ pad-front bs);
+      value = (form, ap (take (length bs)) (c .pad .ensures .value) ∙ pad-front bs);
       written = form-written bs form;
       one-reading = one-reading;
       one-value = one-form;

@@ -17,4 +17,4 @@ pub returns : need.returns
 returns c =
     let bs = c .args .bytes .now in
     let all : c .loop-i .i ≡ length bs = omega arith in
-    c .loop-i .inv .1 ∙ ap (λ i. take i bs ++ replicate (24 - i) 0) all ∙ ap (λ l. l ++ replicate (24 - length bs) 0) (take-all (length bs) bs (omega arith))
+    record { value = c .loop-i .inv .1 ∙ ap (λ i. take i bs ++ replicate (24 - i) 0) all ∙ ap (λ l. l ++ replicate (24 - length bs) 0) (take-all (length bs) bs (omega arith)) }

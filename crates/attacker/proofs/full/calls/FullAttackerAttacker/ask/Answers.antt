@@ -34,7 +34,7 @@ returns c =
     let tree = message-read m closed-form in
     let right : c .can-build .result ≡ derives heard m =
     ∥∥₁-elim (self .knows) (Bool-set (c .can-build .result) (derives heard m)) (λ known.
-    c .can-build .ensures (tree .0) (tree .1) (tree .2) ∙ same-decision heard m (tree .0) (tree .3) _ (now-known heard kept marks count (self .known .atoms) all there (same-atoms (getD marks count noMark .atoms) (self .known .atoms) (self .atoms)) full known)) in
+    c .can-build .ensures .builds (tree .0) (tree .1) (tree .2) ∙ same-decision heard m (tree .0) (tree .3) _ (now-known heard kept marks count (self .known .atoms) all there (same-atoms (getD marks count noMark .atoms) (self .known .atoms) (self .atoms)) full known)) in
     record {
       answer = ask-answered heard m derives (c .can-build .result) closed-form right;
       derived = λ e. decides-right heard m .0 (sym right ∙ (cc));

@@ -1,34 +1,41 @@
 use mathlib.Core.Path.{refl, sym, ap, _∙_}
-use mathlib.Core.List.{map, _∷_, [], _++_}
+use mathlib.Core.List.{_∷_, [], _++_}
 use Prim.Native.Nat.{_≤_, _<_}
 use native.Mathlib.Omega.{arith}
 use lib.ListN.{length}
 use Rattle.std.specs.Of.Vec.{vec-items}
-use Rattle.std.proofs.shelf.Lists.{length-map, map-push}
+use Rattle.std.proofs.shelf.Lists.{length-map}
 use Rattle.message.specs.Messages.{messageText}
-use Rattle.attacker.proofs.Answering.{hear-full, list-full, hear-taken, list-taken}
+use Rattle.attacker.specs.Texts.{texts}
+use Rattle.attacker.proofs.Answering.{hear-full, list-full, hear-taken, heard-more}
 use Rattle.attacker.proofs.repeater.calls.RepeaterAttacker.hear.Needs as need
 
-pub returns-then-len-ge128 : need.returns-then-len-ge128
-returns-then-len-ge128 c =
-    let messages = c .args .self .now .messages in
-    let list = map messageText (vec-items messages) in
+pub returns-then-count-ge128 : need.returns-then-count-ge128
+returns-then-count-ge128 c =
+    let heard = texts (vec-items (c .args .self .now .messages)) in
     let told = c .in-Some .ensures tt .value in
-    let full : 128 ≤ length list = omega (arith, length-map (vec-items messages) messageText, messages .ok .0) in
-    record {
-      answer = hear-full list (c .args .message .now) (told .0) full;
-      list = list-full list (c .args .message .now) (told .0) full;
-      relation = refl;
-    }
+    let full : 128 ≤ length heard = omega (arith, c .count .ensures .value) in
+    record { answer = hear-full heard (c .args .message .now) (told .0) full; list = list-full heard (c .args .message .now) (told .0) full; relation = refl }
+
+pub ghost-self : need.ghost-self
+ghost-self c =
+    let self = c .args .self .now in
+    let many = length-map (vec-items (self .messages)) messageText in
+    (omega (arith, self .room, c .push-reserved .ensures .capacity), (omega (arith, c .count .ensures .value, many, self .messages .ok .0, c .push-reserved .ensures .len), tt))
+
+pub push-reserved-requires : need.push-reserved-requires
+push-reserved-requires c κs =
+    let self = c .args .self .now in
+    omega (arith, c .count .ensures .value, length-map (vec-items (self .messages)) messageText, self .messages .ok .0, self .room)
 
 pub returns : need.returns
 returns c =
     let messages = c .args .self .now .messages in
-    let list = map messageText (vec-items messages) in
+    let heard = texts (vec-items messages) in
     let told = c .in-Some .ensures tt .value in
-    let room : length list < 128 = omega (arith, length-map (vec-items messages) messageText, messages .ok .0) in
+    let room : length heard < 128 = omega (arith, c .count .ensures .value) in
     record {
-      answer = hear-taken list (c .args .message .now) (told .0) room;
-      list = ap (map messageText) (c .push-reserved .ensures .items) ∙ map-push messageText (vec-items messages) (c .in-Some .message) ∙ ap (λ l. list ++ l ∷ []) (told .1) ∙ list-taken list (c .args .message .now) (told .0) room;
+      answer = hear-taken heard (c .args .message .now) (told .0) room;
+      list = heard-more (vec-items messages) (vec-items (c .push-reserved .last .self)) (c .in-Some .message) (c .args .message .now) (c .push-reserved .ensures .items) (told .1) (told .0) room;
       relation = refl;
     }
