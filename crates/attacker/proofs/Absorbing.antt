@@ -25,7 +25,7 @@ use Rattle.message.proofs.Reading.{Says}
 use Rattle.attacker.specs.declared.atoms.Atoms.{Atoms}
 use Rattle.attacker.specs.Atoms.{within}
 use Rattle.attacker.specs.Derivation.{sameTree, stands, opens, parts}
-use Rattle.attacker.specs.Known.{atomKnown, composites, Closed-form, With, Absorbs}
+use Rattle.attacker.specs.Known.{atomKnown, composites, ClosedForm, With, Absorbs}
 
 -- no byte of the whole is a variable, so none of a part is
 pub closed-first : (b : ℕ) (bs : List ℕ) → closed (b ∷ bs) ≡ true → (isVariable b ≡ false) × (closed bs ≡ true)
@@ -42,27 +42,27 @@ closed-parts (x ∷ xs) ys e =
     let rest = closed-parts xs ys (first .1) in
     (closed-on x xs (first .0) ∙ rest .0, rest .1)
 
-module _ {x y : Tree} (form : Closed-form (joined x y)) where
-  pub left-form : Closed-form x
+module _ {x y : Tree} (form : ClosedForm (joined x y)) where
+  pub left-form : ClosedForm x
   left-form = record {
     fits = record { sound = and-true (proper x) (proper y) (form .fits .sound) .0; short = omega (arith, form .fits .short) };
     fixed = closed-parts (write x) (write y) (closed-first 0xF0 (write x ++ write y) (form .fixed) .1) .0;
   }
 
-  pub right-form : Closed-form y
+  pub right-form : ClosedForm y
   right-form = record {
     fits = record { sound = and-true (proper x) (proper y) (form .fits .sound) .1; short = omega (arith, form .fits .short) };
     fixed = closed-parts (write x) (write y) (closed-first 0xF0 (write x ++ write y) (form .fixed) .1) .1;
   }
 
-pub inner-form : {k : ℕ} {x : Tree} → Closed-form (locked k x) → Closed-form x
+pub inner-form : {k : ℕ} {x : Tree} → ClosedForm (locked k x) → ClosedForm x
 inner-form {k} {x} form = record {
   fits = record { sound = and-true (isLocking k) (proper x) (form .fits .sound) .1; short = omega (arith, form .fits .short) };
   fixed = closed-first k (write x) (closed-first 0xF1 (k ∷ write x) (form .fixed) .1) .1;
 }
 
 -- a form with no variable is a message
-pub message-write : (t : Tree) → Closed-form t → messageOf (write t) ≡ Some t
+pub message-write : (t : Tree) → ClosedForm t → messageOf (write t) ≡ Some t
 message-write t form = ap (λ c. elim c as (λ _. Option Tree) [ true ↦ formOf (write t) | false ↦ None ]) (form .fixed) ∙ form-write t (form .fits)
 
 pub stands-append : (xs ys : List Tree) (t : Tree) → stands (xs ++ ys) t ≡ (stands xs t || stands ys t)
@@ -83,11 +83,11 @@ join-first x y bs is = ap (λ l. symbol (getD l 0 0)) is
 lock-first : (k : ℕ) (x : Tree) (bs : List ℕ) → write (locked k x) ≡ bs → Lock ≡ symbol (getD bs 0 0)
 lock-first k x bs is = ap (λ l. symbol (getD l 0 0)) is
 
-atom-first : (a : ℕ) (bs : List ℕ) → Closed-form (atom a) → write (atom a) ≡ bs → standsForAtom (symbol (getD bs 0 0)) ≡ true
+atom-first : (a : ℕ) (bs : List ℕ) → ClosedForm (atom a) → write (atom a) ≡ bs → standsForAtom (symbol (getD bs 0 0)) ≡ true
 unfolding isAtom
 atom-first a bs form is = ap (λ l. standsForAtom (symbol (getD l 0 0))) (sym is) ∙ form .fits .sound
 
-pub no-variable : {A : Type 0} (v : ℕ) → Closed-form (variable v) → A
+pub no-variable : {A : Type 0} (v : ℕ) → ClosedForm (variable v) → A
 no-variable v form = absurd (clash (sym (closed-first v [] (form .fixed) .0) ∙ form .fits .sound))
 
 -- going on in the list of bytes: past those below n, and at a sign that fails the test anyway
@@ -140,26 +140,26 @@ other-byte s is =
 
 -- a form with no variable, by its first byte
 module _ (bs : List ℕ) where
-  pub at-atom : (k : Kind) → symbol (getD bs 0 0) ≡ Atom k → (P : Tree → Type 0) → ((a : ℕ) → Closed-form (atom a) → write (atom a) ≡ bs → P (atom a)) → (t : Tree) → Closed-form t → write t ≡ bs → P t
+  pub at-atom : (k : Kind) → symbol (getD bs 0 0) ≡ Atom k → (P : Tree → Type 0) → ((a : ℕ) → ClosedForm (atom a) → write (atom a) ≡ bs → P (atom a)) → (t : Tree) → ClosedForm t → write t ≡ bs → P t
   at-atom k at P then (atom a) form is = then a form is
   at-atom k at P then (variable v) form is = no-variable v form
   at-atom k at P then (joined x y) form is = let e = join-first x y bs is in let z : _≡_ {A = ℕ} 0 1 = cc in absurd (omega arith)
   at-atom k at P then (locked j x) form is = let e = lock-first j x bs is in let z : _≡_ {A = ℕ} 0 1 = cc in absurd (omega arith)
 
-  pub at-join : symbol (getD bs 0 0) ≡ Join → (P : Tree → Type 0) → ((x y : Tree) → Closed-form (joined x y) → write (joined x y) ≡ bs → P (joined x y)) → (t : Tree) → Closed-form t → write t ≡ bs → P t
+  pub at-join : symbol (getD bs 0 0) ≡ Join → (P : Tree → Type 0) → ((x y : Tree) → ClosedForm (joined x y) → write (joined x y) ≡ bs → P (joined x y)) → (t : Tree) → ClosedForm t → write t ≡ bs → P t
   at-join at P then (atom a) form is = absurd (clash (ap standsForAtom (sym at) ∙ atom-first a bs form is))
   at-join at P then (variable v) form is = no-variable v form
   at-join at P then (joined x y) form is = then x y form is
   at-join at P then (locked k x) form is = let e = lock-first k x bs is in let z : _≡_ {A = ℕ} 0 1 = cc in absurd (omega arith)
 
-  pub at-lock : symbol (getD bs 0 0) ≡ Lock → (P : Tree → Type 0) → ((k : ℕ) (x : Tree) → Closed-form (locked k x) → write (locked k x) ≡ bs → P (locked k x)) → (t : Tree) → Closed-form t → write t ≡ bs → P t
+  pub at-lock : symbol (getD bs 0 0) ≡ Lock → (P : Tree → Type 0) → ((k : ℕ) (x : Tree) → ClosedForm (locked k x) → write (locked k x) ≡ bs → P (locked k x)) → (t : Tree) → ClosedForm t → write t ≡ bs → P t
   at-lock at P then (atom a) form is = absurd (clash (ap standsForAtom (sym at) ∙ atom-first a bs form is))
   at-lock at P then (variable v) form is = no-variable v form
   at-lock at P then (joined x y) form is = let e = join-first x y bs is in let z : _≡_ {A = ℕ} 0 1 = cc in absurd (omega arith)
   at-lock at P then (locked k x) form is = then k x form is
 
   -- none begins with a variable or with a byte that is not used
-  pub at-none : standsForAtom (symbol (getD bs 0 0)) ≡ false → (symbol (getD bs 0 0) ≡ Join → ⊥) → (symbol (getD bs 0 0) ≡ Lock → ⊥) → (t : Tree) → Closed-form t → write t ≡ bs → ⊥
+  pub at-none : standsForAtom (symbol (getD bs 0 0)) ≡ false → (symbol (getD bs 0 0) ≡ Join → ⊥) → (symbol (getD bs 0 0) ≡ Lock → ⊥) → (t : Tree) → ClosedForm t → write t ≡ bs → ⊥
   at-none at not-join not-lock (atom a) form is = clash (sym at ∙ atom-first a bs form is)
   at-none at not-join not-lock (variable v) form is = no-variable v form
   at-none at not-join not-lock (joined x y) form is = not-join (sym (join-first x y bs is))
@@ -173,7 +173,7 @@ module _ (bs : List ℕ) where
   at-end short (locked k x) is = omega (arith, ap length is)
 
   -- the left half of a joined form is what the reader reads after the first byte
-  pub left-size : (x y : Tree) → Closed-form (joined x y) → write (joined x y) ≡ bs → (r : Option ℕ) → Says (drop 1 bs) r → r ≡ Some (size x)
+  pub left-size : (x y : Tree) → ClosedForm (joined x y) → write (joined x y) ≡ bs → (r : Option ℕ) → Says (drop 1 bs) r → r ≡ Some (size x)
   left-size x y form is r says =
       let rest : drop 1 bs ≡ write x ++ write y = ap (drop 1) (sym is) in
       let long : length (drop 1 bs) ≡ size x + size y = ap length rest ∙ length-append (write x) (write y) ∙ (λ i. size-write x i + size-write y i) in
@@ -181,7 +181,7 @@ module _ (bs : List ℕ) where
       ∙ ap (λ l. mapped size (reads (length (drop 1 bs)) l)) rest
       ∙ ap (mapped size) (reads-write x (left-form form .fits .sound) (length (drop 1 bs)) (write y) (omega arith))
 
-  pub halves : (x y : Tree) → Closed-form (joined x y) → write (joined x y) ≡ bs → (l : ℕ) → Says (drop 1 bs) (Some l) → (write x ≡ take l (drop 1 bs)) × (write y ≡ drop (1 + l) bs)
+  pub halves : (x y : Tree) → ClosedForm (joined x y) → write (joined x y) ≡ bs → (l : ℕ) → Says (drop 1 bs) (Some l) → (write x ≡ take l (drop 1 bs)) × (write y ≡ drop (1 + l) bs)
   halves x y form is l says =
       let same = left-size x y form is (Some l) says in
       let n : length (write x) ≡ l = size-write x ∙ (cc) in (
@@ -201,7 +201,7 @@ module _ (opened : Atoms) (bs : List ℕ) (kept : List (List ℕ)) (atoms : Atom
     learns = at-atom bs k at (λ t. With atoms (parts (atomKnown opened) t) atoms′) learns;
   }
     where
-      learns : (a : ℕ) → Closed-form (atom a) → write (atom a) ≡ bs → With atoms (parts (atomKnown opened) (atom a)) atoms′
+      learns : (a : ℕ) → ClosedForm (atom a) → write (atom a) ≡ bs → With atoms (parts (atomKnown opened) (atom a)) atoms′
       learns a form is b =
           added b
           ∙ ap (λ l. within atoms b || (ltb (getD l 0 0) 128 && eqb (getD l 0 0) b)) (sym is)
@@ -215,7 +215,7 @@ module _ (opened : Atoms) (bs : List ℕ) (kept : List (List ℕ)) (atoms : Atom
 -- what is kept of a joined or locked form: itself, and what comes out of what it holds
 module _ (opened : Atoms) (bs : List ℕ) (kept kept₁ : List (List ℕ)) (atoms : Atoms) (keeping : isMessage bs ≡ true → kept₁ ≡ kept ++ bs ∷ []) where
   -- the form itself was kept
-  kept-whole : (t : Tree) → Closed-form t → write t ≡ bs → kept₁ ≡ kept ++ write t ∷ []
+  kept-whole : (t : Tree) → ClosedForm t → write t ≡ bs → kept₁ ≡ kept ++ write t ∷ []
   kept-whole t form is = keeping (ap isMessage (sym is) ∙ ap isSome (message-write t form)) ∙ ap (λ l. kept ++ l ∷ []) (sym is)
 
   pub absorb-joined : symbol (getD bs 0 0) ≡ Join → (l : ℕ) → Says (drop 1 bs) (Some l) → (kept₂ kept₃ : List (List ℕ)) (atoms₂ atoms₃ : Atoms)
@@ -229,7 +229,7 @@ module _ (opened : Atoms) (bs : List ℕ) (kept kept₁ : List (List ℕ)) (atom
       known : Tree → Bool
       known = atomKnown opened
 
-      keeps : (x y : Tree) → Closed-form (joined x y) → write (joined x y) ≡ bs → kept₃ ≡ kept ++ composites (parts known (joined x y))
+      keeps : (x y : Tree) → ClosedForm (joined x y) → write (joined x y) ≡ bs → kept₃ ≡ kept ++ composites (parts known (joined x y))
       keeps x y form is =
           let cut = halves bs x y form is l says in
           second .keeps y (right-form form) (cut .1)
@@ -239,7 +239,7 @@ module _ (opened : Atoms) (bs : List ℕ) (kept kept₁ : List (List ℕ)) (atom
           ∙ ap (λ k. k ++ composites (parts known x ++ parts known y)) (kept-whole (joined x y) form is)
           ∙ append-assoc kept (write (joined x y) ∷ []) (composites (parts known x ++ parts known y))
 
-      learns : (x y : Tree) → Closed-form (joined x y) → write (joined x y) ≡ bs → With atoms (parts known (joined x y)) atoms₃
+      learns : (x y : Tree) → ClosedForm (joined x y) → write (joined x y) ≡ bs → With atoms (parts known (joined x y)) atoms₃
       learns x y form is b =
           let cut = halves bs x y form is l says in
           second .learns y (right-form form) (cut .1) b
@@ -251,7 +251,7 @@ module _ (opened : Atoms) (bs : List ℕ) (kept kept₁ : List (List ℕ)) (atom
   pub absorb-unread : symbol (getD bs 0 0) ≡ Join → Says (drop 1 bs) None → (kept′ : List (List ℕ)) (atoms′ : Atoms) → Absorbs opened bs kept kept′ atoms atoms′
   absorb-unread at says kept′ atoms′ = record { keeps = λ t form is. absurd (none t form is); learns = λ t form is. absurd (none t form is) }
     where
-      none : (t : Tree) → Closed-form t → write t ≡ bs → ⊥
+      none : (t : Tree) → ClosedForm t → write t ≡ bs → ⊥
       none = at-join bs at (λ _. ⊥) (λ x y form is. let same = left-size bs x y form is None says in let z : _≡_ {A = ℕ} 0 1 = cc in omega arith)
 
   -- a lock that opens: itself, then what comes out of what it locks
@@ -268,7 +268,7 @@ module _ (opened : Atoms) (bs : List ℕ) (kept kept₁ : List (List ℕ)) (atom
       out : (k : ℕ) (x : Tree) → write (locked k x) ≡ bs → parts known (locked k x) ≡ locked k x ∷ parts known x
       out k x is = ap (λ c. locked k x ∷ elim c as (λ _. List Tree) [ true ↦ parts known x | false ↦ [] ]) (ap (λ l. opens known (getD l 1 0)) is ∙ unlocks)
 
-      keeps : (k : ℕ) (x : Tree) → Closed-form (locked k x) → write (locked k x) ≡ bs → kept₂ ≡ kept ++ composites (parts known (locked k x))
+      keeps : (k : ℕ) (x : Tree) → ClosedForm (locked k x) → write (locked k x) ≡ bs → kept₂ ≡ kept ++ composites (parts known (locked k x))
       keeps k x form is =
           inside .keeps x (inner-form form) (ap (drop 2) is)
           ∙ ap (λ l. l ++ composites (parts known x)) (kept-whole (locked k x) form is)

@@ -18,7 +18,7 @@ use Rattle.message.proofs.Whole.{and-true}
 use Rattle.attacker.specs.declared.atoms.Atoms.{Atoms}
 use Rattle.attacker.specs.Atoms.{within}
 use Rattle.attacker.specs.Derivation.{builds}
-use Rattle.attacker.specs.Known.{knownBy, Closed-form}
+use Rattle.attacker.specs.Known.{knownBy, ClosedForm}
 use Rattle.attacker.specs.Laws.{has}
 use Rattle.attacker.proofs.Absorbing.{at-atom, at-join, at-lock, at-none, halves, closed-first, left-form, right-form, inner-form}
 use Rattle.attacker.proofs.Kept.{form-fits}
@@ -31,7 +31,7 @@ locking-key Join e f = e
 locking-key Lock e f = e
 locking-key Unused e f = e
 
-lock-key : (k : ℕ) (x : Tree) → Closed-form (locked k x) → isKey k ≡ true
+lock-key : (k : ℕ) (x : Tree) → ClosedForm (locked k x) → isKey k ≡ true
 unfolding isKey isLocking isVariable
 lock-key k x form = locking-key (symbol k) (and-true (isLocking k) (proper x) (form .fits .sound) .0) (closed-first k (write x) (closed-first 0xF1 (k ∷ write x) (form .fixed) .1) .0)
 
@@ -42,13 +42,13 @@ and-false false = refl
 module _ (atoms : Atoms) (kept : List (List ℕ)) (bs : List ℕ) where
   -- r is the answer for the message that the bytes are
   abbrev pub Built : List ℕ → Bool → Type 0
-  Built l r = (t : Tree) → Closed-form t → write t ≡ l → r ≡ builds (knownBy atoms kept) t
+  Built l r = (t : Tree) → ClosedForm t → write t ≡ l → r ≡ builds (knownBy atoms kept) t
 
   pub built-atom : (k : Kind) → symbol (getD bs 0 0) ≡ Atom k → Built bs (within atoms (getD bs 0 0))
   built-atom k at = at-atom bs k at (λ t. within atoms (getD bs 0 0) ≡ builds (knownBy atoms kept) t) (λ a form is. ap (λ l. within atoms (getD l 0 0)) (sym is))
 
   -- a joined form stands among the parts, or is built of its halves
-  joined-built : (x y : Tree) → Closed-form (joined x y) → write (joined x y) ≡ bs → (c : Bool) → c ≡ (builds (knownBy atoms kept) x && builds (knownBy atoms kept) y) → (c || has kept bs) ≡ builds (knownBy atoms kept) (joined x y)
+  joined-built : (x y : Tree) → ClosedForm (joined x y) → write (joined x y) ≡ bs → (c : Bool) → c ≡ (builds (knownBy atoms kept) x && builds (knownBy atoms kept) y) → (c || has kept bs) ≡ builds (knownBy atoms kept) (joined x y)
   joined-built x y form is c e =
       or-comm c (has kept bs)
       ∙ (λ i. has kept (sym is i) || e i)
@@ -71,7 +71,7 @@ module _ (atoms : Atoms) (kept : List (List ℕ)) (bs : List ℕ) where
         (λ x y form is. let cut = halves bs x y form is l says in joined-built x y form is false (sym (and-false (builds (knownBy atoms kept) x)) ∙ ap (λ c. builds (knownBy atoms kept) x && c) (second y (right-form form) (cut .1))))
 
   -- a locked form stands among the parts, or is locked with a key that is known
-  locked-built : (k : ℕ) (x : Tree) → Closed-form (locked k x) → write (locked k x) ≡ bs → (c : Bool) → c ≡ (within atoms k && builds (knownBy atoms kept) x) → (c || has kept bs) ≡ builds (knownBy atoms kept) (locked k x)
+  locked-built : (k : ℕ) (x : Tree) → ClosedForm (locked k x) → write (locked k x) ≡ bs → (c : Bool) → c ≡ (within atoms k && builds (knownBy atoms kept) x) → (c || has kept bs) ≡ builds (knownBy atoms kept) (locked k x)
   locked-built k x form is c e =
       or-comm c (has kept bs)
       ∙ (λ i. has kept (sym is i) || e i)

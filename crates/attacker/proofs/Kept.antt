@@ -18,18 +18,18 @@ use Rattle.message.proofs.OneReading.{reads-write}
 use Rattle.attacker.specs.declared.atoms.Atoms.{Atoms}
 use Rattle.attacker.specs.Atoms.{within}
 use Rattle.attacker.specs.Derivation.{sameTree, stands, opens, parts}
-use Rattle.attacker.specs.Known.{atomKnown, fitting, knownBy, composites, Closed-form, With, Absorbs}
+use Rattle.attacker.specs.Known.{atomKnown, fitting, knownBy, composites, ClosedForm, With, Absorbs}
 use Rattle.attacker.specs.Laws.{has}
 use Rattle.attacker.proofs.Absorbing.{left-form, right-form, inner-form, no-variable}
 use Rattle.attacker.proofs.Standing.{same-self, same-equal, stands-first, stands-later, stands-cases, stands-none, stands-either}
 
 -- the test for a form with no variable
-pub form-fits : (t : Tree) → Closed-form t → fitting t ≡ true
+pub form-fits : (t : Tree) → ClosedForm t → fitting t ≡ true
 form-fits t form =
     and-from (proper t) (leb (size t) 24 && closed (write t)) (form .fits .sound)
     (and-from (leb (size t) 24) (closed (write t)) (le-leb (size t) 24 (form .fits .short)) (form .fixed))
 
-pub fits-form : (t : Tree) → fitting t ≡ true → Closed-form t
+pub fits-form : (t : Tree) → fitting t ≡ true → ClosedForm t
 fits-form t e =
     let p = and-parts (proper t) (leb (size t) 24 && closed (write t)) e in
     let q = and-parts (leb (size t) 24) (closed (write t)) (p .1) in
@@ -62,16 +62,16 @@ has-either (x ∷ xs) ys m h =
 
 -- every tree of the list is a form with no variable
 abbrev pub AllForms : List Tree → Type 0
-AllForms ts = (u : Tree) → stands ts u ≡ true → Closed-form u
+AllForms ts = (u : Tree) → stands ts u ≡ true → ClosedForm u
 
-forms-one : (t : Tree) (ts : List Tree) → Closed-form t → AllForms ts → AllForms (t ∷ ts)
-forms-one t ts form rest u h = elim (stands-cases t ts u h) [ inl e ↦ subst Closed-form e form | inr e ↦ rest u e ]
+forms-one : (t : Tree) (ts : List Tree) → ClosedForm t → AllForms ts → AllForms (t ∷ ts)
+forms-one t ts form rest u h = elim (stands-cases t ts u h) [ inl e ↦ subst ClosedForm e form | inr e ↦ rest u e ]
 
 forms-none : AllForms []
 forms-none u h = stands-none u h
 
 -- the parts of a form with no variable are such forms
-pub parts-forms : (known : Tree → Bool) (t : Tree) → Closed-form t → AllForms (parts known t)
+pub parts-forms : (known : Tree → Bool) (t : Tree) → ClosedForm t → AllForms (parts known t)
 parts-forms known (atom b) form = forms-one (atom b) [] form forms-none
 parts-forms known (variable b) form = forms-one (variable b) [] form forms-none
 parts-forms known (joined x y) form =
@@ -112,7 +112,7 @@ pub kept-stands : (ts : List Tree) → AllForms ts → (u : Tree) → proper u �
 kept-stands [] forms u p h = absurd (clash h)
 kept-stands (t ∷ ts) forms u p h = go t (λ v i. forms v i) (λ f. kept-stands ts (λ v i. forms v (stands-later t ts v i)) u p f) h
   where
-    same : (t : Tree) → Closed-form t → sameBytes (write t) (write u) ≡ true → stands (t ∷ ts) u ≡ true
+    same : (t : Tree) → ClosedForm t → sameBytes (write t) (write u) ≡ true → stands (t ∷ ts) u ≡ true
     same t form e = subst (λ v. stands (t ∷ ts) v ≡ true) (same-written t u (form .fits .sound) p (sameBytes-decides (write t) (write u) .0 e)) (stands-first t ts)
 
     go : (t : Tree) → AllForms (t ∷ ts) → (has (composites ts) (write u) ≡ true → stands ts u ≡ true) → has (composites (t ∷ ts)) (write u) ≡ true → stands (t ∷ ts) u ≡ true

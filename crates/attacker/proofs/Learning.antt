@@ -19,7 +19,7 @@ use Rattle.message.proofs.OneReading.{form-written}
 use Rattle.attacker.specs.declared.atoms.Atoms.{Atoms}
 use Rattle.attacker.specs.Atoms.{within}
 use Rattle.attacker.specs.Derivation.{Derivable, heard-whole, parts, Knowledge}
-use Rattle.attacker.specs.Known.{atomKnown, fitting, knownBy, composites, signs, weights, Closed-form, Absorbs, Open, Opens, Inside, Parted}
+use Rattle.attacker.specs.Known.{atomKnown, fitting, knownBy, composites, signs, weights, ClosedForm, Absorbs, Open, Opens, Inside, Parted}
 use Rattle.attacker.specs.Laws.{has}
 use Rattle.attacker.proofs.Absorbing.{message-write}
 use Rattle.attacker.proofs.Deciding.{derivable-more}
@@ -29,7 +29,7 @@ use Rattle.attacker.proofs.Weighing.{weights-append, weights-parts}
 use Rattle.attacker.proofs.Stepping.{known-still, known-or-out, out-open, whole-known, justified-on, left-on, right-on}
 
 -- a message is a form with no variable
-pub message-tree : (m : Message) → (t : Tree) × Closed-form t × (write t ≡ messageText m)
+pub message-tree : (m : Message) → (t : Tree) × ClosedForm t × (write t ≡ messageText m)
 message-tree m =
     let found = form-written (messageText m) (m .form .reads) in
     (found .0, record { fits = found .1; fixed = ap closed (found .2) ∙ m .fixed }, found .2)
@@ -49,7 +49,7 @@ settled heard kept atoms parted all-open = record {
       all-open k j x (fits-form (locked k x) (p .0)) (p .1) inv op;
 }
 
-module _ (heard : List (List ℕ)) (t : Tree) (form : Closed-form t) (kept kept′ : List (List ℕ)) (atoms atoms′ : Atoms)
+module _ (heard : List (List ℕ)) (t : Tree) (form : ClosedForm t) (kept kept′ : List (List ℕ)) (atoms atoms′ : Atoms)
     (took : Absorbs atoms (write t) kept kept′ atoms atoms′) (before : Knowledge heard (knownBy atoms kept)) where
   -- with the message that is now heard
   longer : List (List ℕ)
@@ -112,7 +112,7 @@ opening-on opened₀ kept₀ atoms₀ opened kept atoms kept′ atoms′ sofar r
 }
 
 -- taking a message apart adds the room of its parts
-pub room-after : (opened : Atoms) (t : Tree) (form : Closed-form t) (kept kept′ : List (List ℕ)) (atoms atoms′ : Atoms) → Absorbs opened (write t) kept kept′ atoms atoms′ → weights opened kept′ ≡ weights opened kept + signs (write t)
+pub room-after : (opened : Atoms) (t : Tree) (form : ClosedForm t) (kept kept′ : List (List ℕ)) (atoms atoms′ : Atoms) → Absorbs opened (write t) kept kept′ atoms atoms′ → weights opened kept′ ≡ weights opened kept + signs (write t)
 room-after opened t form kept kept′ atoms atoms′ took =
     ap (weights opened) (took .keeps t form refl) ∙ weights-append opened kept (composites (parts (atomKnown opened) t)) ∙ ap (λ n. weights opened kept + n) (weights-parts opened t form)
 

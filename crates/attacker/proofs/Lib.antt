@@ -17,3 +17,4 @@ pub mod Learning
 pub mod Asked
 pub mod Marking
 pub mod Telling
+pub mod Examples

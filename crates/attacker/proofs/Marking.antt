@@ -14,7 +14,7 @@ use Rattle.attacker.specs.declared.atoms.Atoms.{Atoms}
 use Rattle.attacker.specs.declared.mark.Mark.{Mark}
 use Rattle.attacker.specs.Atoms.{within}
 use Rattle.attacker.specs.Derivation.{Knowledge}
-use Rattle.attacker.specs.Known.{fitting, knownBy, sign, signs, weights, Closed-form}
+use Rattle.attacker.specs.Known.{fitting, knownBy, sign, signs, weights, ClosedForm}
 use Rattle.attacker.specs.Laws.{has}
 use Rattle.attacker.specs.Marks.{noMark, AllKnown, Roomy, Rising}
 use Rattle.attacker.proofs.Absorbing.{atom-small, no-variable, left-form, right-form, inner-form}
@@ -61,13 +61,13 @@ module _ (none : Atoms) (empty : (b : ℕ) → within none b ≡ false) where
       at m (suc n) le h = absurd (omega arith)
 
 -- a message of n bytes has fewer than n / 2 joined and locked parts
-half-signs : (t : Tree) → Closed-form t → 2 * signs (write t) + 1 ≤ size t
+half-signs : (t : Tree) → ClosedForm t → 2 * signs (write t) + 1 ≤ size t
 half-signs (atom b) form = omega (arith, small-sign b (omega (arith, atom-small b (form .fits .sound))))
 half-signs (variable b) form = no-variable b form
 half-signs (joined x y) form = omega (arith, signs-append (write x) (write y), half-signs x (left-form form), half-signs y (right-form form))
 half-signs (locked k x) form = omega (arith, lock-sign k x form, half-signs x (inner-form form))
 
-pub few-signs : (t : Tree) → Closed-form t → signs (write t) ≤ 11
+pub few-signs : (t : Tree) → ClosedForm t → signs (write t) ≤ 11
 few-signs t form = omega (arith, half-signs t form, form .fits .short)
 
 -- one mark more

@@ -20,7 +20,7 @@ use Rattle.message.specs.Trees.{Tree, atom, variable, joined, locked, write}
 use Rattle.attacker.specs.declared.atoms.Atoms.{Atoms}
 use Rattle.attacker.specs.Atoms.{within}
 use Rattle.attacker.specs.Derivation.{Derivable, decryption, opens, parts}
-use Rattle.attacker.specs.Known.{atomKnown, fitting, knownBy, composites, sign, signs, weight, weights, opensNow, Closed-form, Absorbs, Open, Inside, Parted}
+use Rattle.attacker.specs.Known.{atomKnown, fitting, knownBy, composites, sign, signs, weight, weights, opensNow, ClosedForm, Absorbs, Open, Inside, Parted}
 use Rattle.attacker.specs.Laws.{has}
 use Rattle.attacker.proofs.Absorbing.{inner-form, atom-small, no-variable}
 use Rattle.attacker.proofs.Closing.{opens-from, opens-by}
@@ -115,7 +115,7 @@ module _ (opened wider : Atoms) (start : List (List ℕ)) (atoms₀ : Atoms) (in
       scan-past kept′ atoms′ same-kept same-atoms = subst (λ k. Scan opened wider start atoms₀ (i + 1) k atoms′) (sym same-kept) (subst (λ a. Scan opened wider start atoms₀ (i + 1) kept a) (sym same-atoms) stays)
 
     -- a lock that opens now
-    module _ (k : ℕ) (x : Tree) (form : Closed-form (locked k x)) (is : write (locked k x) ≡ m) (now : opensNow opened wider m ≡ true)
+    module _ (k : ℕ) (x : Tree) (form : ClosedForm (locked k x)) (is : write (locked k x) ≡ m) (now : opensNow opened wider m ≡ true)
         (kept′ : List (List ℕ)) (atoms′ : Atoms) (took : Absorbs wider (write x) kept kept′ atoms atoms′) where
       comes : List (List ℕ)
       comes = composites (parts (atomKnown wider) x)
@@ -226,11 +226,11 @@ module _ (opened wider : Atoms) (start : List (List ℕ)) (atoms₀ : Atoms) (in
       )
 
   -- one part more
-  pub scan-step : (u : Tree) → Closed-form u → write u ≡ m → (kept′ : List (List ℕ)) (atoms′ : Atoms)
+  pub scan-step : (u : Tree) → ClosedForm u → write u ≡ m → (kept′ : List (List ℕ)) (atoms′ : Atoms)
       → When (opensNow opened wider m) (Absorbs wider (drop 2 m) kept kept′ atoms atoms′) ((kept′ ≡ kept) × (atoms′ ≡ atoms)) → Scan opened wider start atoms₀ (i + 1) kept′ atoms′
   scan-step u form is kept′ atoms′ told = go (opensNow opened wider m) refl told
     where
-      opened-lock : (u : Tree) → Closed-form u → write u ≡ m → opensNow opened wider m ≡ true → Absorbs wider (drop 2 m) kept kept′ atoms atoms′ → Scan opened wider start atoms₀ (i + 1) kept′ atoms′
+      opened-lock : (u : Tree) → ClosedForm u → write u ≡ m → opensNow opened wider m ≡ true → Absorbs wider (drop 2 m) kept kept′ atoms atoms′ → Scan opened wider start atoms₀ (i + 1) kept′ atoms′
       opened-lock (atom a) form is now took = absurd (clash (ap (opensNow opened wider) is ∙ now))
       opened-lock (variable v) form is now took = no-variable v form
       opened-lock (joined x y) form is now took = absurd (clash (sym (join-shut opened wider (write x ++ write y)) ∙ ap (opensNow opened wider) is ∙ now))

@@ -12,13 +12,13 @@ use Rattle.message.specs.Trees.{Tree, atom, variable, joined, locked, write, me
 use Rattle.attacker.specs.declared.atoms.Atoms.{Atoms}
 use Rattle.attacker.specs.Atoms.{within}
 use Rattle.attacker.specs.Derivation.{Derivable, stands, opens, parts}
-use Rattle.attacker.specs.Known.{atomKnown, fitting, knownBy, composites, Closed-form, Absorbs, Open, Inside, Parted}
+use Rattle.attacker.specs.Known.{atomKnown, fitting, knownBy, composites, ClosedForm, Absorbs, Open, Inside, Parted}
 use Rattle.attacker.specs.Laws.{has}
 use Rattle.attacker.proofs.Absorbing.{no-variable}
 use Rattle.attacker.proofs.Closing.{parts-whole, parts-closed, parts-derived, opens-from}
 use Rattle.attacker.proofs.Kept.{form-fits, fits-form, has-before, has-behind, has-either, parts-forms, stands-kept, kept-stands}
 
-module _ (opened : Atoms) (t : Tree) (form : Closed-form t) (kept kept′ : List (List ℕ)) (atoms atoms′ : Atoms) (took : Absorbs opened (write t) kept kept′ atoms atoms′) where
+module _ (opened : Atoms) (t : Tree) (form : ClosedForm t) (kept kept′ : List (List ℕ)) (atoms atoms′ : Atoms) (took : Absorbs opened (write t) kept kept′ atoms atoms′) where
   -- what came out
   out : List Tree
   out = parts (atomKnown opened) t
@@ -42,7 +42,7 @@ module _ (opened : Atoms) (t : Tree) (form : Closed-form t) (kept kept′ : List
   known-still (locked k x) h = old-text (locked k x) h
 
   -- what came out is known
-  new-text : (u : Tree) → Closed-form u → has (composites (parts (atomKnown opened) t)) (write u) ≡ true → (fitting u && has kept′ (write u)) ≡ true
+  new-text : (u : Tree) → ClosedForm u → has (composites (parts (atomKnown opened) t)) (write u) ≡ true → (fitting u && has kept′ (write u)) ≡ true
   new-text u f h = and-from (fitting u) (has kept′ (write u)) (form-fits u f) (subst (λ l. has l (write u) ≡ true) (sym kept-is) (has-behind kept (composites (parts (atomKnown opened) t)) (write u) h))
 
   pub out-known : (u : Tree) → stands (parts (atomKnown opened) t) u ≡ true → knownBy atoms′ kept′ u ≡ true

@@ -10,19 +10,19 @@ use Rattle.std.specs.declared.option.Option.the-variants.{Some, None}
 use Rattle.message.specs.Trees.{Tree, write, formOf, closed, messageOf, isMessage}
 use Rattle.message.proofs.OneReading.{write-form}
 use Rattle.attacker.specs.Derivation.{Knowledge, builds, stands, knownParts, derives}
-use Rattle.attacker.specs.Known.{Closed-form}
+use Rattle.attacker.specs.Known.{ClosedForm}
 use Rattle.attacker.proofs.Building.{decided}
 use Rattle.attacker.proofs.Hearing.{known-parts}
 
 -- bytes that are a message are written so by a form with no variable
-pub message-read : (m : List ℕ) → isMessage m ≡ true → (t : Tree) × Closed-form t × (write t ≡ m) × (messageOf m ≡ Some t)
+pub message-read : (m : List ℕ) → isMessage m ≡ true → (t : Tree) × ClosedForm t × (write t ≡ m) × (messageOf m ≡ Some t)
 message-read m e = fixed (closed m) refl e
   where
-    form : closed m ≡ true → (o : Option Tree) → formOf m ≡ o → isSome o ≡ true → messageOf m ≡ formOf m → (t : Tree) × Closed-form t × (write t ≡ m) × (messageOf m ≡ Some t)
+    form : closed m ≡ true → (o : Option Tree) → formOf m ≡ o → isSome o ≡ true → messageOf m ≡ formOf m → (t : Tree) × ClosedForm t × (write t ≡ m) × (messageOf m ≡ Some t)
     form c None is s e = absurd (clash s)
     form c (Some t) is s e = let w = write-form m t is in (t, record { fits = w .0; fixed = ap closed (w .1) ∙ c }, w .1, e ∙ is)
 
-    fixed : (b : Bool) → closed m ≡ b → isSome (elim b as (λ _. Option Tree) [ true ↦ formOf m | false ↦ None ]) ≡ true → (t : Tree) × Closed-form t × (write t ≡ m) × (messageOf m ≡ Some t)
+    fixed : (b : Bool) → closed m ≡ b → isSome (elim b as (λ _. Option Tree) [ true ↦ formOf m | false ↦ None ]) ≡ true → (t : Tree) × ClosedForm t × (write t ≡ m) × (messageOf m ≡ Some t)
     fixed true c s = form c (formOf m) refl s (ap (λ b. elim b as (λ _. Option Tree) [ true ↦ formOf m | false ↦ None ]) c)
     fixed false c s = absurd (clash s)
 

@@ -14,7 +14,7 @@ use Rattle.message.specs.Trees.{Tree, atom, variable, joined, locked, proper, w
 use Rattle.attacker.specs.declared.atoms.Atoms.{Atoms}
 use Rattle.attacker.specs.Atoms.{within}
 use Rattle.attacker.specs.Derivation.{opens, parts}
-use Rattle.attacker.specs.Known.{atomKnown, composites, sign, signs, weight, weights, opensNow, Closed-form, Inside}
+use Rattle.attacker.specs.Known.{atomKnown, composites, sign, signs, weight, weights, opensNow, ClosedForm, Inside}
 use Rattle.attacker.proofs.Absorbing.{atom-small, locking-small, no-variable, left-form, right-form, inner-form, composites-append}
 use Rattle.attacker.proofs.Closing.{opens-from, opens-by}
 use Rattle.attacker.proofs.Signs.{signs-append}
@@ -97,11 +97,11 @@ weight-join opened [] = refl
 weight-join opened (k ∷ rest) = refl
 
 -- the byte in the lock is no sign
-pub lock-sign : (k : ℕ) (x : Tree) → Closed-form (locked k x) → sign k ≡ 0
+pub lock-sign : (k : ℕ) (x : Tree) → ClosedForm (locked k x) → sign k ≡ 0
 lock-sign k x form = small-sign k (locking-small k (and-parts (isLocking k) (proper x) (form .fits .sound) .0))
 
 -- what comes out of a message weighs what the message has of parts
-pub weights-parts : (opened : Atoms) (t : Tree) → Closed-form t → weights opened (composites (parts (atomKnown opened) t)) ≡ signs (write t)
+pub weights-parts : (opened : Atoms) (t : Tree) → ClosedForm t → weights opened (composites (parts (atomKnown opened) t)) ≡ signs (write t)
 weights-parts opened (atom b) form = omega (arith, small-sign b (omega (arith, atom-small b (form .fits .sound))))
 weights-parts opened (variable b) form = no-variable b form
 weights-parts opened (joined x y) form =

@@ -59,7 +59,7 @@ weights opened [] = 0
 weights opened (m ∷ ms) = weight opened m + weights opened ms
 
 -- a form with no variable
-pub record Closed-form (t : Tree) : Type 0 where
+pub record ClosedForm (t : Tree) : Type 0 where
   pub fits : Fits t
   pub fixed : closed (write t) ≡ true
 
@@ -70,12 +70,12 @@ With before ts after = (b : ℕ) → within after b ≡ (within before b || stan
 -- What taking the bytes apart adds, where they are a message: the texts of the parts that come out, in order, and the
 -- atoms among them. The second list and set are those afterwards.
 pub record Absorbs (opened : Atoms) (bs : List ℕ) (kept kept′ : List (List ℕ)) (atoms atoms′ : Atoms) : Type 0 where
-  pub keeps : (t : Tree) → Closed-form t → write t ≡ bs → kept′ ≡ kept ++ composites (parts (atomKnown opened) t)
-  pub learns : (t : Tree) → Closed-form t → write t ≡ bs → With atoms (parts (atomKnown opened) t) atoms′
+  pub keeps : (t : Tree) → ClosedForm t → write t ≡ bs → kept′ ≡ kept ++ composites (parts (atomKnown opened) t)
+  pub learns : (t : Tree) → ClosedForm t → write t ≡ bs → With atoms (parts (atomKnown opened) t) atoms′
 
 -- the locks of the list that an opened atom opens are open: what they lock is known
 abbrev pub Open : Atoms → List (List ℕ) → (Tree → Bool) → Type 0
-Open opened locks known = (k j : ℕ) (x : Tree) → Closed-form (locked k x) → has locks (write (locked k x)) ≡ true → inverseOf k ≡ Some j → within opened j ≡ true → known x ≡ true
+Open opened locks known = (k j : ℕ) (x : Tree) → ClosedForm (locked k x) → has locks (write (locked k x)) ≡ true → inverseOf k ≡ Some j → within opened j ≡ true → known x ≡ true
 
 -- one set of atoms has all of another
 abbrev pub Inside : Atoms → Atoms → Type 0

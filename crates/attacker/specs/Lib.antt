@@ -6,3 +6,4 @@ pub mod Laws
 pub mod Listening
 pub mod Marks
 pub mod Texts
+pub mod Worked

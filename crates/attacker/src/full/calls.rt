@@ -7,6 +7,7 @@ ghost use Rattle.std.specs.declared.result.Result.the-variants.{Ok};
 ghost use Rattle.attacker.specs.Calls.{askAnswer};
 ghost use Rattle.attacker.specs.Derivation.{derives, CanMake};
 ghost use Rattle.attacker.specs.Texts.{texts};
+ghost use Rattle.attacker.specs.Worked.{Worked};
 use crate::Attacker;
 use crate::atoms::Atoms;
 use crate::full::FullAttacker;
@@ -21,6 +22,7 @@ impl FullAttacker {
     // A full attacker that has heard nothing. Only this call asks for memory.
     pub fn new(heap: Global) -> Result<FullAttacker, AllocError>
         ensures starts_empty { λ r. ⌜ made r (λ a. texts (vec-items (a .messages)) ≡ []) ⌝ }
+        ensures worked { λ _. ⌜ Worked ⌝ }
     {
         let messages = Vec::with_capacity(heap, 128)?;
         let parts = Vec::with_capacity(heap, 1408)?;

@@ -2,7 +2,7 @@ ghost use mathlib.Core.Path.{_≡_};
 ghost use Rattle.std.specs.Of.Vec.{vec-items};
 ghost use Rattle.message.specs.Trees.{Tree, write};
 ghost use Rattle.attacker.specs.Derivation.{builds};
-ghost use Rattle.attacker.specs.Known.{knownBy, Closed-form};
+ghost use Rattle.attacker.specs.Known.{knownBy, ClosedForm};
 ghost use Rattle.attacker.specs.Texts.{texts};
 use crate::among::stands_among;
 use crate::known::Known;
@@ -13,7 +13,7 @@ use message::reader::form_length;
 impl Known {
     // Whether the bytes can be built from what is known, by joining and by locking with a key that is known.
     pub(crate) fn can_build(&self, part: &[u8]) -> bool
-        ensures builds { λ r. ⌜ ((t : Tree) → Closed-form t → write t ≡ now (part .entry) → r ≡ builds (knownBy (now (self .entry) .atoms) (texts (vec-items (now (self .entry) .parts)))) t) ⌝ }
+        ensures builds { λ r. ⌜ ((t : Tree) → ClosedForm t → write t ≡ now (part .entry) → r ≡ builds (knownBy (now (self .entry) .atoms) (texts (vec-items (now (self .entry) .parts)))) t) ⌝ }
     {
         if part.len() < 1 {
             return false;

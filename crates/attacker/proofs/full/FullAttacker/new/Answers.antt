@@ -1,11 +1,13 @@
 use mathlib.Core.Path.{_≡_, refl, sym, ap, subst, _∙_}
 use mathlib.Core.List.{[], _∷_, _++_}
 use native.Mathlib.Omega.{arith}
+use borrow.Author.Needs.{needs}
 use lib.ListN.{getD}
 use Rattle.std.specs.Of.Vec.{vec-items, vec-len}
 use Rattle.attacker.specs.declared.mark.Mark.{Mark}
 use Rattle.attacker.specs.Marks.{noMark}
 use Rattle.attacker.specs.Texts.{texts}
+use Rattle.attacker.proofs.Examples.{worked}
 use Rattle.attacker.proofs.Marking.{known-first, roomy-first, rising-first}
 use Rattle.attacker.proofs.full.FullAttacker.new.Needs as need
 
@@ -40,3 +42,15 @@ ghost-result-2 c =
         ),
       ),
     )
+
+pub returns-in-Break-messages : need.returns-in-Break-messages
+returns-in-Break-messages c = record { starts-empty = search needs; worked = worked }
+
+pub returns-in-Break-parts : need.returns-in-Break-parts
+returns-in-Break-parts c = record { starts-empty = search needs; worked = worked }
+
+pub returns-in-Break-marks : need.returns-in-Break-marks
+returns-in-Break-marks c = record { starts-empty = search needs; worked = worked }
+
+pub returns : need.returns
+returns c = record { starts-empty = search needs; worked = worked }
