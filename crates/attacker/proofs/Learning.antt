@@ -1,10 +1,10 @@
 -- Hearing one message more: what is known before and after. Assumes nothing.
 use mathlib.Core.Path.{_≡_, refl, sym, ap, subst, _∙_}
 use mathlib.Core.List.{List, [], _∷_, _++_, append-nil, append-assoc}
-use mathlib.Core.Bool.{Bool, true, false, not, _&&_, _||_}
+use mathlib.Core.Bool.{Bool, true, false, _&&_, _||_}
 use mathlib.Core.Logic.{_⊎_, inl, inr}
 use Prim.Native.Nat.{ℕ, _+_}
-use borrow.Author.Tests.{clash, not-false}
+use borrow.Author.Tests.{clash}
 use Rattle.std.specs.declared.option.Option.{Option}
 use Rattle.std.specs.declared.option.Option.the-variants.{Some}
 use Rattle.std.specs.Options.{isSome}
@@ -119,10 +119,3 @@ room-after opened t form kept kept′ atoms atoms′ took =
 -- a set of atoms is its bits
 pub same-atoms : (s u : Atoms) → s .bits ≡ u .bits → s ≡ u
 same-atoms s u e i = record { bits = e i }
-
--- the two ways out of a test that two sets differ
-pub differ : (m n : ℕ) (r : Bool) → ((x : Bool) × ((x ≡ true → m ≡ n) × (m ≡ n → x ≡ true)) × (r ≡ not x)) → r ≡ true → m ≡ n → ⊥
-differ m n r told yes-they-do e = clash (sym (ap not (told .1 .1 e)) ∙ sym (told .2) ∙ yes-they-do)
-
-pub agree : (m n : ℕ) (r : Bool) → ((x : Bool) × ((x ≡ true → m ≡ n) × (m ≡ n → x ≡ true)) × (r ≡ not x)) → r ≡ false → m ≡ n
-agree m n r told same = told .1 .0 (not-false (told .0) (sym (told .2) ∙ same))

@@ -18,3 +18,4 @@ pub mod Asked
 pub mod Marking
 pub mod Telling
 pub mod Examples
+pub mod Keys

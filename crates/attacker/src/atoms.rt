@@ -3,9 +3,9 @@ ghost use Prim.Native.Nat.{ℕ, _≤_};
 ghost use mathlib.Core.Bool.{false, _&&_, _||_};
 ghost use mathlib.Core.Path.{_≡_};
 ghost use lib.Dec.{eqb, ltb};
-ghost use Rattle.attacker.specs.Atoms.{within};
+ghost use Rattle.attacker.specs.Atoms.{within, keyBits};
 
-#[derive(Clone, Copy, PartialEq, Eq)]
+#[derive(Clone, Copy)]
 pub struct Atoms {
     bits: u128,
 }
@@ -23,6 +23,13 @@ impl Atoms {
         ensures value { λ r. ⌜ r ≡ within self atom ⌝ }
     {
         atom < 128 && self.bits >> atom & 1 == 1
+    }
+
+    // The bits of the keys alone.
+    pub fn keys(self) -> u128
+        ensures value { λ r. ⌜ r ≡ keyBits self ⌝ }
+    {
+        self.bits >> 0x50 & 0xFFFF_FFFF
     }
 
     // Puts the atom into the set; a byte above 127 changes nothing.

@@ -11,7 +11,6 @@ ghost use Rattle.attacker.specs.Derivation.{opens, Knowledge};
 ghost use Rattle.attacker.specs.Known.{atomKnown, knownBy, signs, weight, weights, opensNow, Absorbs, Opens, Inside};
 ghost use Rattle.attacker.specs.Texts.{texts};
 use crate::atoms::Atoms;
-use crate::atoms::AtomsPartialEq;
 use crate::known::Known;
 use message::closed::Message;
 use message::kind::Symbol;
@@ -116,7 +115,8 @@ impl Known {
     {
         let mut opened = self.atoms;
         self.absorb(message.bytes(), opened);
-        while opened != self.atoms {
+        // Only a key can open a lock.
+        while opened.keys() != self.atoms.keys() {
             let wider = self.atoms;
             self.open_locks(opened, wider);
             opened = wider;

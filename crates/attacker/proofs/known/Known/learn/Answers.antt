@@ -8,9 +8,11 @@ use Rattle.std.proofs.shelf.Lists.{length-map}
 use Rattle.message.specs.Messages.{messageText}
 use Rattle.message.specs.Trees.{atom, write}
 use Rattle.attacker.specs.Derivation.{Knowledge}
-use Rattle.attacker.specs.Known.{knownBy, signs, weights, Absorbs, Inside, Open}
+use Rattle.attacker.specs.Known.{knownBy, signs, weights, Absorbs, Inside}
 use Rattle.attacker.specs.Texts.{texts}
-use Rattle.attacker.proofs.Learning.{message-tree, parted-now, open-now, settled, opening-starts, opening-on, room-after, same-atoms, differ, agree}
+use Rattle.attacker.specs.Atoms.{keyBits}
+use Rattle.attacker.proofs.Keys.{same-opener, same-weights}
+use Rattle.attacker.proofs.Learning.{message-tree, parted-now, open-now, settled, opening-starts, opening-on, room-after, same-atoms}
 use Rattle.attacker.proofs.Stepping.{known-still}
 use Rattle.attacker.proofs.Weighing.{weights-long}
 use Rattle.attacker.proofs.known.Known.learn.Needs as need
@@ -47,7 +49,8 @@ pub loop-opened-less : need.loop-opened-less
 loop-opened-less c =
     let m = c .loop-opened .opened .bits in
     let n = c .loop-opened .self .atoms .bits in
-    let apart : m ≡ n → ⊥ = differ m n (c .ne .result) (c .ne .ensures) (c .loop-opened-test .taken) in
+    let told : keyBits (c .loop-opened .opened) ≡ keyBits (c .loop-opened .self .atoms) → ⊥ = λ same. c .loop-opened-test .taken (c .keys .ensures .value ∙ same ∙ sym (c .keys-in-loop-opened .ensures .value)) in
+    let apart : m ≡ n → ⊥ = λ same. told (ap keyBits (same-atoms (c .loop-opened .opened) (c .loop-opened .self .atoms) same)) in
     omega (arith, c .open-locks .ensures .fits)
 
 pub loop-opened-again : need.loop-opened-again
@@ -70,13 +73,13 @@ returns c =
     let atoms = c .loop-opened .self .atoms in
     let opening = c .loop-opened .inv .1 in
     let took = subst (λ l. Absorbs (self .atoms) l kept₀ kept₁ (self .atoms) atoms₁) (c .bytes .ensures .value ∙ sym (tree .2)) (c .absorb .ensures .absorbs) in
-    let same : c .loop-opened .opened ≡ atoms = same-atoms (c .loop-opened .opened) atoms (agree (c .loop-opened .opened .bits) (atoms .bits) (c .ne .result) (c .ne .ensures) (c .loop-opened-test .left)) in
+    let same : keyBits (c .loop-opened .opened) ≡ keyBits atoms = sym (c .keys .ensures .value) ∙ c .loop-opened-test .left ∙ c .keys-in-loop-opened .ensures .value in
     let grown = took .keeps (tree .0) (tree .1) refl in
     record {
-      room = ap (λ a. weights a kept) (sym same) ∙ opening .room ∙ room-after (self .atoms) (tree .0) (tree .1) kept₀ kept₁ (self .atoms) atoms₁ took ∙ ap (λ l. weights (self .atoms) kept₀ + signs l) (tree .2);
+      room = sym (same-weights (c .loop-opened .opened) atoms same kept) ∙ opening .room ∙ room-after (self .atoms) (tree .0) (tree .1) kept₀ kept₁ (self .atoms) atoms₁ took ∙ ap (λ l. weights (self .atoms) kept₀ + signs l) (tree .2);
       knows = λ heard before.
           let now-heard = heard ++ write (tree .0) ∷ [] in
           let ends = opening .knows now-heard (parted-now heard (tree .0) (tree .1) kept₀ kept₁ (self .atoms) atoms₁ took before) (open-now heard (tree .0) (tree .1) kept₀ kept₁ (self .atoms) atoms₁ took before) in
-          subst (λ l. Knowledge (heard ++ l ∷ []) (knownBy atoms kept)) (tree .2) (settled now-heard kept atoms (ends .0) (subst (λ a. Open a kept (knownBy atoms kept)) same (ends .1)));
+          subst (λ l. Knowledge (heard ++ l ∷ []) (knownBy atoms kept)) (tree .2) (settled now-heard kept atoms (ends .0) (λ k j x form h inv op. ends .1 k j x form h inv (same-opener (c .loop-opened .opened) atoms same k j inv ∙ op)));
       keeps = (_, opening .after ∙ ap (λ l. l ++ opening .fresh) grown ∙ append-assoc kept₀ _ (opening .fresh));
     }
