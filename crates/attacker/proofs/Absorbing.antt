@@ -1,7 +1,7 @@
 -- What is kept when a message is taken apart. Assumes nothing.
 use mathlib.Core.Path.{_≡_, refl, sym, ap, subst, _∙_}
 use mathlib.Core.List.{List, [], _∷_, _++_, append-assoc, append-nil}
-use mathlib.Core.Bool.{Bool, true, false, cond, _&&_, _||_, or-assoc, or-comm}
+use mathlib.Core.Bool.{Bool, true, false, cond, _&&_, _||_, or-false, or-assoc}
 use mathlib.Core.Logic.{_⊎_, ⊎-elim}
 use Prim.Native.Nat.{ℕ, _+_, _-_, _≤_, _<_}
 use native.Mathlib.Omega.{arith}
@@ -12,7 +12,7 @@ use Rattle.std.specs.declared.option.Option.{Option}
 use Rattle.std.specs.declared.option.Option.the-variants.{Some, None}
 use Rattle.std.specs.Options.{isSome, mapped}
 use Rattle.std.proofs.shelf.Lists.{take-at, drop-at, drop-drop}
-use Rattle.std.proofs.shelf.Tests.{cases-lt}
+use Rattle.std.proofs.shelf.Tests.{cases-lt, and-parts}
 use Rattle.message.specs.declared.kind.Kind.{Kind}
 use Rattle.message.specs.declared.kind.Symbol.{Symbol}
 use Rattle.message.specs.declared.kind.Symbol.the-variants.{Atom, Variable, Join, Lock, Unused}
@@ -20,7 +20,6 @@ use Rattle.message.specs.Bytes.{symbol, isAtom, isVariable, isLocking, standsFo
 use Rattle.message.specs.Trees.{Tree, atom, variable, joined, locked, proper, write, size, reads, formOf, closed, messageOf, isMessage, Fits}
 use Rattle.message.proofs.NoVariable.{closed-on}
 use Rattle.message.proofs.OneReading.{form-write, reads-write, size-write}
-use Rattle.message.proofs.Whole.{and-true}
 use Rattle.message.proofs.Reading.{Says}
 use Rattle.attacker.specs.declared.atoms.Atoms.{Atoms}
 use Rattle.attacker.specs.Atoms.{within}
@@ -45,19 +44,19 @@ closed-parts (x ∷ xs) ys e =
 module _ {x y : Tree} (form : ClosedForm (joined x y)) where
   pub left-form : ClosedForm x
   left-form = record {
-    fits = record { sound = and-true (proper x) (proper y) (form .fits .sound) .0; short = omega (arith, form .fits .short) };
+    fits = record { sound = and-parts (proper x) (proper y) (form .fits .sound) .0; short = omega (arith, form .fits .short) };
     fixed = closed-parts (write x) (write y) (closed-first 0xF0 (write x ++ write y) (form .fixed) .1) .0;
   }
 
   pub right-form : ClosedForm y
   right-form = record {
-    fits = record { sound = and-true (proper x) (proper y) (form .fits .sound) .1; short = omega (arith, form .fits .short) };
+    fits = record { sound = and-parts (proper x) (proper y) (form .fits .sound) .1; short = omega (arith, form .fits .short) };
     fixed = closed-parts (write x) (write y) (closed-first 0xF0 (write x ++ write y) (form .fixed) .1) .1;
   }
 
 pub inner-form : {k : ℕ} {x : Tree} → ClosedForm (locked k x) → ClosedForm x
 inner-form {k} {x} form = record {
-  fits = record { sound = and-true (isLocking k) (proper x) (form .fits .sound) .1; short = omega (arith, form .fits .short) };
+  fits = record { sound = and-parts (isLocking k) (proper x) (form .fits .sound) .1; short = omega (arith, form .fits .short) };
   fixed = closed-first k (write x) (closed-first 0xF1 (k ∷ write x) (form .fixed) .1) .1;
 }
 
@@ -121,10 +120,6 @@ highest-byte a h =
 pub locking-small : (a : ℕ) → isLocking a ≡ true → a < 0xF0
 unfolding isLocking
 locking-small a e = ⊎-elim (λ h. omega arith) (λ h. absurd (clash (sym (highest-byte a h) ∙ e))) (cases-lt a 0xD0)
-
-or-false : (c : Bool) → c ≡ (c || false)
-or-false true = refl
-or-false false = refl
 
 -- the halves as the code cuts them
 pub left-cut : (bs : List ℕ) (l : ℕ) → take (1 + l - 1) (drop 1 bs) ≡ take l (drop 1 bs)
@@ -206,7 +201,7 @@ module _ (opened : Atoms) (bs : List ℕ) (kept : List (List ℕ)) (atoms : Atom
           added b
           ∙ ap (λ l. within atoms b || (ltb (getD l 0 0) 128 && eqb (getD l 0 0) b)) (sym is)
           ∙ ap (λ c. within atoms b || (c && eqb a b)) (lt-ltb a 128 (atom-small a (form .fits .sound)))
-          ∙ ap (λ c. within atoms b || c) (or-false (eqb a b))
+          ∙ ap (λ c. within atoms b || c) (sym (or-false (eqb a b)))
 
   pub absorb-other : (kept′ : List (List ℕ)) (atoms′ : Atoms) → standsForAtom (symbol (getD bs 0 0)) ≡ false → (symbol (getD bs 0 0) ≡ Join → ⊥) → (symbol (getD bs 0 0) ≡ Lock → ⊥)
       → Absorbs opened bs kept kept′ atoms atoms′
@@ -279,7 +274,7 @@ module _ (opened : Atoms) (bs : List ℕ) (kept kept₁ : List (List ℕ)) (atom
   pub absorb-shut : symbol (getD bs 0 0) ≡ Lock → (1 < length bs → opens (atomKnown opened) (getD bs 1 0) ≡ false) → Absorbs opened bs kept kept₁ atoms atoms
   absorb-shut at shut = record {
     keeps = at-lock bs at (λ t. kept₁ ≡ kept ++ composites (parts (atomKnown opened) t)) (λ k x form is. kept-whole (locked k x) form is ∙ ap (λ l. kept ++ composites l) (sym (out k x is)));
-    learns = at-lock bs at (λ t. With atoms (parts (atomKnown opened) t) atoms) (λ k x form is b. or-false (within atoms b) ∙ ap (λ l. within atoms b || stands l (atom b)) (sym (out k x is)));
+    learns = at-lock bs at (λ t. With atoms (parts (atomKnown opened) t) atoms) (λ k x form is b. sym (or-false (within atoms b)) ∙ ap (λ l. within atoms b || stands l (atom b)) (sym (out k x is)));
   }
     where
       known : Tree → Bool

@@ -24,16 +24,6 @@ pub back-taken : (heard : List (List ℕ)) (n : ℕ) → n ≤ length heard → 
 back-taken heard n h = ap (λ b. cond b (Ok tt) (Err AboveCount)) (sym (le-leb n (length heard) h))
 
 module _ (heard : List (List ℕ)) (m : List ℕ) where
-  -- bytes that are no message
-  pub hear-no-message : isMessage m ≡ false → Err NotClosedForm ≡ hearAnswer heard m
-  hear-no-message e = ap (λ b. cond b (cond (ltb (length heard) 128) (Ok tt) (Err HeardEnough)) (Err NotClosedForm)) (sym e)
-
-  pub list-no-message : isMessage m ≡ false → heard ≡ heardAfter heard m
-  list-no-message e = ap (λ b. cond (b && ltb (length heard) 128) (heard ++ m ∷ []) heard) (sym e)
-
-  pub ask-no-message : (makes : List (List ℕ) → List ℕ → Bool) → isMessage m ≡ false → Err NotClosedForm ≡ askAnswer makes heard m
-  ask-no-message makes e = ap (λ b. cond b (Ok (makes heard m)) (Err NotClosedForm)) (sym e)
-
   -- a message, where 128 are heard
   pub hear-full : isMessage m ≡ true → 128 ≤ length heard → Err HeardEnough ≡ hearAnswer heard m
   hear-full e h =

@@ -1,20 +1,20 @@
 -- What the walk over a message answers, part by part. Assumes nothing.
 use mathlib.Core.Path.{_≡_, refl, sym, ap, subst, _∙_}
 use mathlib.Core.List.{List, [], _∷_, _++_}
-use mathlib.Core.Bool.{Bool, true, false, _&&_, _||_, or-comm}
+use mathlib.Core.Bool.{Bool, true, false, _&&_, _||_, and-false, or-comm}
 use Prim.Native.Nat.{ℕ, _+_, _≤_, _<_}
 use native.Mathlib.Omega.{arith}
 use lib.ListN.{length, getD, take, drop, length-append}
 use borrow.Author.Tests.{clash}
 use Rattle.std.specs.declared.option.Option.{Option}
 use Rattle.std.specs.declared.option.Option.the-variants.{Some, None}
+use Rattle.std.proofs.shelf.Tests.{and-parts}
 use Rattle.message.specs.declared.kind.Kind.{Kind}
 use Rattle.message.specs.declared.kind.Symbol.{Symbol}
 use Rattle.message.specs.declared.kind.Symbol.the-variants.{Atom, Variable, Join, Lock, Unused}
 use Rattle.message.specs.Bytes.{symbol, isVariable, isLocking, isKey, standsForAtom, standsForVariable, standsForKey, canLock}
 use Rattle.message.specs.Trees.{Tree, atom, variable, joined, locked, proper, write, size}
 use Rattle.message.proofs.Reading.{Says}
-use Rattle.message.proofs.Whole.{and-true}
 use Rattle.attacker.specs.declared.atoms.Atoms.{Atoms}
 use Rattle.attacker.specs.Atoms.{within}
 use Rattle.attacker.specs.Derivation.{builds}
@@ -33,11 +33,7 @@ locking-key Unused e f = e
 
 lock-key : (k : ℕ) (x : Tree) → ClosedForm (locked k x) → isKey k ≡ true
 unfolding isKey isLocking isVariable
-lock-key k x form = locking-key (symbol k) (and-true (isLocking k) (proper x) (form .fits .sound) .0) (closed-first k (write x) (closed-first 0xF1 (k ∷ write x) (form .fixed) .1) .0)
-
-and-false : (c : Bool) → (c && false) ≡ false
-and-false true = refl
-and-false false = refl
+lock-key k x form = locking-key (symbol k) (and-parts (isLocking k) (proper x) (form .fits .sound) .0) (closed-first k (write x) (closed-first 0xF1 (k ∷ write x) (form .fixed) .1) .0)
 
 module _ (atoms : Atoms) (kept : List (List ℕ)) (bs : List ℕ) where
   -- r is the answer for the message that the bytes are

@@ -1,7 +1,7 @@
 -- The bits of a set of atoms. Assumes nothing.
 use mathlib.Core.Path.{_≡_, refl, sym, ap, _∙_}
 use mathlib.Core.Logic.{⊎-elim}
-use mathlib.Core.Bool.{Bool, true, false, _&&_, _||_}
+use mathlib.Core.Bool.{Bool, true, false, _&&_, _||_, and-false, or-true, or-false}
 use Prim.Native.Nat.{ℕ, zero, suc, _+_, _-_, _*_, _/_, _%_, _^_, _≤_, _<_}
 use native.Mathlib.Nat.{zero-div, zero-mod, one-mul, pow-suc, mul-mod-left, div-eq-of-lt}
 use native.Mathlib.Omega.{arith}
@@ -44,14 +44,6 @@ or-one zero h = refl
 or-one (suc zero) h = refl
 or-one (suc (suc x)) h = absurd (omega arith)
 
-or-true : (c : Bool) → true ≡ (c || true)
-or-true true = refl
-or-true false = refl
-
-or-false : (c : Bool) → c ≡ (c || false)
-or-false true = refl
-or-false false = refl
-
 -- putting atom a into the set
 bit-added : (n a b : ℕ) → eqb (bit (bitOr n (2 ^ a)) b) 1 ≡ (eqb (bit n b) 1 || eqb a b)
 bit-added n a b = ⊎-elim here there (cases-eq b a)
@@ -60,13 +52,13 @@ bit-added n a b = ⊎-elim here there (cases-eq b a)
     here e =
         ap (λ x. eqb x 1) (bit-or n (2 ^ a) b ∙ ap (λ x. bitOr (bit n b) (bit (2 ^ a) x)) e ∙ ap (bitOr (bit n b)) (bit-same a))
         ∙ or-one (bit n b) (mod-below (n / 2 ^ b) 2 (omega arith))
-        ∙ or-true (eqb (bit n b) 1)
+        ∙ sym (or-true (eqb (bit n b) 1))
         ∙ ap (λ x. eqb (bit n b) 1 || x) (sym (eq-eqb a b (sym e)))
 
     there : (b ≡ a → ⊥) → eqb (bit (bitOr n (2 ^ a)) b) 1 ≡ (eqb (bit n b) 1 || eqb a b)
     there ne =
         ap (λ x. eqb x 1) (bit-or n (2 ^ a) b ∙ ap (bitOr (bit n b)) (bit-other a b ne) ∙ or-zero-r (bit n b))
-        ∙ or-false (eqb (bit n b) 1)
+        ∙ sym (or-false (eqb (bit n b) 1))
         ∙ ap (λ x. eqb (bit n b) 1 || x) (sym (ne-eqb a b (λ e. ne (sym e))))
 
 pub within-added : (s t : Atoms) (a : ℕ) → a < 128 → t .bits ≡ bitOr (s .bits) (2 ^ a) → (b : ℕ) → within t b ≡ (within s b || (ltb a 128 && eqb a b))
@@ -87,7 +79,7 @@ within-added s t a small is b = ⊎-elim below above (cases-lt b 128) ∙ ap (λ
         ∙ ap (λ c. (c && eqb (bit (s .bits) b) 1) || eqb a b) (sym (le-ltb b 128 h))
 
 pub within-kept : (s : Atoms) (a : ℕ) → 128 ≤ a → (b : ℕ) → within s b ≡ (within s b || (ltb a 128 && eqb a b))
-within-kept s a h b = or-false (within s b) ∙ ap (λ c. within s b || (c && eqb a b)) (sym (le-ltb a 128 h))
+within-kept s a h b = sym (or-false (within s b)) ∙ ap (λ c. within s b || (c && eqb a b)) (sym (le-ltb a 128 h))
 
 -- the number only grows
 pub or-grows : (m n : ℕ) → m ≤ bitOr m n
@@ -95,11 +87,7 @@ or-grows m n = omega (arith, or-add-and m n, and-le-r m n)
 
 pub within-none : (s : Atoms) → s .bits ≡ 0 → (b : ℕ) → within s b ≡ false
 unfolding within
-within-none s is b = ap (λ n. ltb b 128 && eqb (n / 2 ^ b % 2) 1) is ∙ ap (λ n. ltb b 128 && eqb (n % 2) 1) (zero-div (2 ^ b)) ∙ none (ltb b 128)
-  where
-    none : (c : Bool) → (c && false) ≡ false
-    none true = refl
-    none false = refl
+within-none s is b = ap (λ n. ltb b 128 && eqb (n / 2 ^ b % 2) 1) is ∙ ap (λ n. ltb b 128 && eqb (n % 2) 1) (zero-div (2 ^ b)) ∙ and-false (ltb b 128)
 
 -- the test that the code makes
 pub within-tested : (s : Atoms) (a : ℕ) → a < 128 → eqb (bitAnd (s .bits / 2 ^ a) 1) 1 ≡ within s a

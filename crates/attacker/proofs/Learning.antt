@@ -51,10 +51,7 @@ settled heard kept atoms parted all-open = record {
 
 module _ (heard : List (List ℕ)) (t : Tree) (form : ClosedForm t) (kept kept′ : List (List ℕ)) (atoms atoms′ : Atoms)
     (took : Absorbs atoms (write t) kept kept′ atoms atoms′) (before : Knowledge heard (knownBy atoms kept)) where
-  -- with the message that is now heard
-  longer : List (List ℕ)
-  longer = heard ++ write t ∷ []
-
+  -- the message is derived now, and what was known still is
   now-derived : Derivable (heard ++ write t ∷ []) t
   now-derived = heard-whole (write t) (has-behind heard (write t ∷ []) (write t) (or-left (sameBytes (write t) (write t)) false (sameBytes-decides (write t) (write t) .1 refl))) (message-write t form)
 

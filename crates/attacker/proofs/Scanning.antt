@@ -193,9 +193,6 @@ join-shut : (opened wider : Atoms) (rest : List ℕ) → opensNow opened wider (
 join-shut opened wider [] = refl
 join-shut opened wider (k ∷ rest) = refl
 
-atom-shut : (opened wider : Atoms) (a : ℕ) → opensNow opened wider (a ∷ []) ≡ false
-atom-shut opened wider a = refl
-
 module _ (opened wider : Atoms) (start : List (List ℕ)) (atoms₀ : Atoms) (inside : Inside opened wider)
     (i : ℕ) (kept : List (List ℕ)) (atoms : Atoms) (scan : Scan opened wider start atoms₀ i kept atoms) (within-start : i < length start) (m : List ℕ) (at : getD kept i [] ≡ m) where
   -- the text at i is one of those kept at the start

@@ -19,10 +19,6 @@ use Rattle.attacker.proofs.Closing.{parts-whole, parts-closed, parts-derived, 
 use Rattle.attacker.proofs.Kept.{form-fits, fits-form, has-before, has-behind, has-either, parts-forms, stands-kept, kept-stands}
 
 module _ (opened : Atoms) (t : Tree) (form : ClosedForm t) (kept kept′ : List (List ℕ)) (atoms atoms′ : Atoms) (took : Absorbs opened (write t) kept kept′ atoms atoms′) where
-  -- what came out
-  out : List Tree
-  out = parts (atomKnown opened) t
-
   kept-is : kept′ ≡ kept ++ composites (parts (atomKnown opened) t)
   kept-is = took .keeps t form refl
 

@@ -7,6 +7,7 @@ use borrow.Author.Tests.{clash}
 use Rattle.std.specs.Options.{isSome, Cases}
 use Rattle.std.specs.declared.option.Option.{Option}
 use Rattle.std.specs.declared.option.Option.the-variants.{Some, None}
+use Rattle.std.proofs.shelf.Ways.{same-from-decides}
 use Rattle.message.specs.Trees.{Tree, write, formOf, closed, messageOf, isMessage}
 use Rattle.message.proofs.OneReading.{write-form}
 use Rattle.attacker.specs.Derivation.{Knowledge, builds, stands, knownParts, derives}
@@ -31,18 +32,9 @@ pub read-some : {A : Type 0} (P : Type 0) {Q : Type 0} (R : A → Type 0) (o : O
 read-some P R None e told = absurd (clash e)
 read-some P R (Some x) e told = told .0
 
--- two tests that follow from each other are the same
-both-ways : (a b : Bool) → (a ≡ true → b ≡ true) → (b ≡ true → a ≡ true) → a ≡ b
-both-ways true true f g = refl
-both-ways true false f g = sym (f refl)
-both-ways false true f g = g refl
-both-ways false false f g = refl
-
 -- building from what is known answers as the decision does
 pub same-decision : (heard : List (List ℕ)) (m : List ℕ) (t : Tree) → messageOf m ≡ Some t → (known : Tree → Bool) → Knowledge heard known → builds known t ≡ derives heard m
 unfolding derives
 same-decision heard m t is known knowledge =
-    both-ways (builds known t) (builds (stands (knownParts heard)) t)
-    (λ h. decided heard (stands (knownParts heard)) (known-parts heard) t .1 (decided heard known knowledge t .0 h))
-    (λ h. decided heard known knowledge t .1 (decided heard (stands (knownParts heard)) (known-parts heard) t .0 h))
+    same-from-decides (builds known t) (builds (stands (knownParts heard)) t) (decided heard known knowledge t) (decided heard (stands (knownParts heard)) (known-parts heard) t)
     ∙ ap (λ o. elim o as (λ _. Bool) [ None ↦ false | Some u ↦ builds (stands (knownParts heard)) u ]) (sym is)

@@ -8,6 +8,7 @@ use borrow.Author.Tests.{clash}
 use Rattle.std.specs.declared.option.Option.{Option}
 use Rattle.std.specs.declared.option.Option.the-variants.{Some, None}
 use Rattle.std.specs.Options.{isSome, mapped, Cases}
+use Rattle.std.proofs.shelf.Tests.{and-parts, and-from}
 use Rattle.message.specs.Bytes.{isVariable, isLocking}
 use Rattle.message.specs.Filling.{fitting, filledByte, filled, fillTree}
 use Rattle.message.specs.Trees.{Tree, atom, variable, joined, locked, proper, write, size, andThen, formOf, isForm, closed, messageOf, Fits}
@@ -15,7 +16,6 @@ use Rattle.message.proofs.Atoms.{atom-no-variable, of-kind-atom, of-kind-locki
 use Rattle.message.proofs.NoVariable.{closed-on, closed-join}
 use Rattle.message.proofs.OneReading.{form-write, write-form}
 use Rattle.message.proofs.Reading.{some-under, none-under}
-use Rattle.message.proofs.Whole.{both-true, and-true}
 
 module _ (values : ℕ → Option ℕ) where
   -- what a byte is replaced by, where it is known whether it is a variable
@@ -61,14 +61,14 @@ module _ (values : ℕ → Option ℕ) where
   filled-write (atom b) e = ap (λ a. andThen a (λ c. Some (c ∷ []))) (sym (byte-kept b (atom-no-variable b e)))
   filled-write (variable b) e = atom-bytes (values b) ∙ ap (λ a. andThen a (λ c. Some (c ∷ []))) (sym (byte-replaced b e))
   filled-write (joined x y) e =
-      let fine = and-true (proper x) (proper y) e in
+      let fine = and-parts (proper x) (proper y) e in
       joined-bytes (fillTree values x) (fillTree values y)
       ∙ ap (λ o. mapped (λ cs. 0xF0 ∷ cs) (andThen o (λ us. mapped (λ vs. us ++ vs) (mapped write (fillTree values y))))) (filled-write x (fine .0))
       ∙ ap (λ o. mapped (λ cs. 0xF0 ∷ cs) (andThen (filled values (write x)) (λ us. mapped (λ vs. us ++ vs) o))) (filled-write y (fine .1))
       ∙ ap (mapped (λ cs. 0xF0 ∷ cs)) (sym (filled-join (write x) (write y)))
   filled-write (locked k x) e =
       locked-bytes (filledByte values k) (fillTree values x)
-      ∙ ap (λ o. mapped (λ cs. 0xF1 ∷ cs) (andThen (filledByte values k) (λ j. mapped (λ cs. j ∷ cs) o))) (filled-write x (and-true (isLocking k) (proper x) e .1))
+      ∙ ap (λ o. mapped (λ cs. 0xF1 ∷ cs) (andThen (filledByte values k) (λ j. mapped (λ cs. j ∷ cs) o))) (filled-write x (and-parts (isLocking k) (proper x) e .1))
 
 -- what a form that keeps the rules is filled to: it keeps them too, is as long, and has no variable
 record Kept (t u : Tree) : Type 0 where
@@ -82,7 +82,7 @@ unfolding isVariable
 kept-joined x y None p left right = tt
 kept-joined x y (Some u) None left right = tt
 kept-joined x y (Some u) (Some v) left right = record {
-  sound = both-true (proper u) (proper v) (left .sound) (right .sound);
+  sound = and-from (proper u) (proper v) (left .sound) (right .sound);
   long = omega (arith, left .long, right .long);
   fixed = closed-join (write u) (write v) (left .fixed) (right .fixed);
 }
@@ -92,7 +92,7 @@ unfolding isVariable
 kept-locked k x None o key inside = tt
 kept-locked k x (Some j) None key inside = tt
 kept-locked k x (Some j) (Some u) key inside = record {
-  sound = both-true (isLocking j) (proper u) (key .0) (inside .sound);
+  sound = and-from (isLocking j) (proper u) (key .0) (inside .sound);
   long = omega (arith, inside .long);
   fixed = closed-on j (write u) (key .1) ∙ inside .fixed;
 }
@@ -114,10 +114,10 @@ module _ (values : ℕ → Option ℕ) (fit : (v : ℕ) → fitting v (values v)
       go None f = tt
       go (Some a) f = let is = of-kind-atom b a f in record { sound = is; long = refl; fixed = closed-on a [] (atom-no-variable a is) }
   tree-kept (joined x y) e =
-      let fine = and-true (proper x) (proper y) e in
+      let fine = and-parts (proper x) (proper y) e in
       kept-joined x y (fillTree values x) (fillTree values y) (tree-kept x (fine .0)) (tree-kept y (fine .1))
   tree-kept (locked k x) e =
-      let fine = and-true (isLocking k) (proper x) e in
+      let fine = and-parts (isLocking k) (proper x) e in
       kept-locked k x (filledByte values k) (fillTree values x) (key-kept k (fine .0)) (tree-kept x (fine .1))
 
   module _ (bs : List ℕ) (t : Tree) (is : formOf bs ≡ Some t) where

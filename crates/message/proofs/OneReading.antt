@@ -9,6 +9,7 @@ use Rattle.std.specs.declared.option.Option.{Option}
 use Rattle.std.specs.declared.option.Option.the-variants.{Some, None}
 use Rattle.std.specs.Options.{isSome}
 use Rattle.std.proofs.shelf.Lists.{drop-at, nil-from-length}
+use Rattle.std.proofs.shelf.Tests.{and-parts, and-from}
 use Rattle.message.specs.declared.kind.Kind.{Kind}
 use Rattle.message.specs.declared.kind.Symbol.{Symbol}
 use Rattle.message.specs.declared.kind.Symbol.the-variants.{Atom, Variable, Join, Lock, Unused}
@@ -16,7 +17,7 @@ use Rattle.message.specs.Bytes.{symbol, isAtom, isVariable, isLocking, standsF
 use borrow.Author.Tests.{clash}
 use Rattle.message.specs.Trees.{Tree, atom, variable, joined, locked, proper, write, size, reads, readsBy, readsLock, andThen, formOf, isForm, Fits, OneReading}
 use Rattle.message.proofs.Reading.{reads-step}
-use Rattle.message.proofs.Whole.{both-true, and-true, whole-form, form-whole}
+use Rattle.message.proofs.Whole.{whole-form, form-whole}
 
 -- what a byte stands for, from the test that it passes
 atom-symbol : (s : Symbol) → standsForAtom s ≡ true → (k : Kind) × (s ≡ Atom k)
@@ -52,7 +53,7 @@ reads-write (variable b) e (suc f) rest p =
     reads-step f b rest (Variable (is .0)) (is .1)
 reads-write (joined x y) e zero rest p = absurd (omega arith)
 reads-write (joined x y) e (suc f) rest p =
-    let fine = and-true (proper x) (proper y) e in
+    let fine = and-parts (proper x) (proper y) e in
     let first : reads f ((write x ++ write y) ++ rest) ≡ Some x = ap (reads f) (append-assoc (write x) (write y) rest) ∙ reads-write x (fine .0) f (write y ++ rest) (omega arith) in
     let behind : drop (size x) ((write x ++ write y) ++ rest) ≡ write y ++ rest = ap (drop (size x)) (append-assoc (write x) (write y) rest) ∙ drop-at (write x) (write y ++ rest) (size x) (size-write x) in
     let second : reads f (drop (size x) ((write x ++ write y) ++ rest)) ≡ Some y = ap (reads f) behind ∙ reads-write y (fine .1) f rest (omega arith) in
@@ -61,7 +62,7 @@ reads-write (joined x y) e (suc f) rest p =
     ∙ ap (λ o. andThen o (λ v. Some (joined x v))) second
 reads-write (locked k x) e zero rest p = absurd (omega arith)
 reads-write (locked k x) e (suc f) rest p =
-    let fine = and-true (isLocking k) (proper x) e in
+    let fine = and-parts (isLocking k) (proper x) e in
     reads-step f 0xF1 (k ∷ (write x ++ rest)) Lock refl
     ∙ ap (λ c. elim c as (λ _. Option Tree) [ true ↦ andThen (reads f (write x ++ rest)) (λ x. Some (locked k x)) | false ↦ None ]) (fine .0)
     ∙ ap (λ o. andThen o (λ x. Some (locked k x))) (reads-write x (fine .1) f rest (omega arith))
@@ -100,14 +101,14 @@ module _ (form : List ℕ → Option Tree) (inner : (bs : List ℕ) (t : Tree) �
   joined-front b bs x y is first second =
       let behind : drop (size x) bs ≡ first .back = ap (drop (size x)) (sym (first .front)) ∙ drop-at (write x) (first .back) (size x) (size-write x) in
       record {
-        sound = both-true (proper x) (proper y) (first .sound) (second .sound);
+        sound = and-from (proper x) (proper y) (first .sound) (second .sound);
         back = second .back;
         front = ap (λ l. 0xF0 ∷ l) (append-assoc (write x) (write y) (second .back) ∙ ap (λ l. write x ++ l) (second .front ∙ behind) ∙ first .front) ∙ ap (λ c. c ∷ bs) (sym is);
       }
 
   locked-front : (b k : ℕ) (rest : List ℕ) (x : Tree) → b ≡ 0xF1 → isLocking k ≡ true → Front x rest → Front (locked k x) (b ∷ k ∷ rest)
   locked-front b k rest x is key inside = record {
-    sound = both-true (isLocking k) (proper x) key (inside .sound);
+    sound = and-from (isLocking k) (proper x) key (inside .sound);
     back = inside .back;
     front = ap (λ l. 0xF1 ∷ k ∷ l) (inside .front) ∙ ap (λ c. c ∷ k ∷ rest) (sym is);
   }

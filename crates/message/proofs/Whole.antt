@@ -10,16 +10,9 @@ use borrow.Author.Tests.{eq-eqb, le-leb, eqb-true, leb-true}
 use Rattle.std.specs.declared.option.Option.{Option}
 use Rattle.std.specs.declared.option.Option.the-variants.{Some, None}
 use Rattle.std.specs.Options.{isSome, mapped}
+use Rattle.std.proofs.shelf.Tests.{and-parts, and-from}
 use Rattle.message.specs.Trees.{Tree, size, reads, whole, formOf, isForm, andThen}
 use Rattle.message.proofs.Reading.{Says, some-under}
-
-pub both-true : (a b : Bool) → a ≡ true → b ≡ true → (a && b) ≡ true
-both-true true b p q = q
-both-true false b p q = p
-
-pub and-true : (a b : Bool) → (a && b) ≡ true → (a ≡ true) × (b ≡ true)
-and-true true b e = (refl, e)
-and-true false b e = let z : _≡_ {A = ℕ} 0 1 = cc in absurd (omega arith)
 
 whole-if : (c : Bool) (t : Tree) → c ≡ true → _≡_ {A = Option Tree} (elim c [ true ↦ Some t | false ↦ None ]) (Some t)
 whole-if true t e = refl
@@ -33,7 +26,7 @@ if-whole false t u e = let z : _≡_ {A = ℕ} 0 1 = cc in absurd (omega arith)
 pub whole-form : (bs : List ℕ) (t : Tree) → reads (length bs) bs ≡ Some t → size t ≡ length bs → length bs ≤ 24 → formOf bs ≡ Some t
 whole-form bs t e all short =
     ap (λ o. andThen o (whole bs)) e
-    ∙ whole-if (eqb (size t) (length bs) && leb (length bs) 24) t (both-true (eqb (size t) (length bs)) (leb (length bs) 24) (eq-eqb (size t) (length bs) all) (le-leb (length bs) 24 short))
+    ∙ whole-if (eqb (size t) (length bs) && leb (length bs) 24) t (and-from (eqb (size t) (length bs)) (leb (length bs) 24) (eq-eqb (size t) (length bs) all) (le-leb (length bs) 24 short))
 
 -- and the form of the bytes is such a reading
 pub form-whole : (bs : List ℕ) (t : Tree) → formOf bs ≡ Some t → (reads (length bs) bs ≡ Some t) × (size t ≡ length bs) × (length bs ≤ 24)
@@ -43,7 +36,7 @@ form-whole bs t e = go (reads (length bs) bs) refl
     go None n = let z : None ≡ Some t = ap (λ o. andThen o (whole bs)) (sym n) ∙ e in let y : _≡_ {A = ℕ} 0 1 = cc in absurd (omega arith)
     go (Some u) s =
         let found = if-whole (eqb (size u) (length bs) && leb (length bs) 24) u t (ap (λ o. andThen o (whole bs)) (sym s) ∙ e) in
-        let tests = and-true (eqb (size u) (length bs)) (leb (length bs) 24) (found .0) in
+        let tests = and-parts (eqb (size u) (length bs)) (leb (length bs) 24) (found .0) in
         (s ∙ ap Some (found .1), ap size (sym (found .1)) ∙ eqb-true (size u) (length bs) (tests .0), leb-true (length bs) 24 (tests .1))
 
 -- where the form at the front takes all the bytes, they are one form
