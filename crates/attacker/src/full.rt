@@ -1,5 +1,5 @@
-// The full attacker: it makes what follows from its list by joining, parting, locking with a key that it can make, and
-// unlocking with the inverse key.
+// The full attacker joins messages and takes them apart, locks with the keys that it can get at, and opens locks whose
+// inverse key it can get at.
 ghost use Prim.Native.Nat.{_+_, _≤_};
 ghost use mathlib.Core.Path.{_≡_};
 ghost use lib.ListN.{getD};

@@ -16,8 +16,9 @@ pub mod listening;
 mod mark;
 pub mod repeater;
 
-// An attacker is the list of messages that it has heard, the oldest first, and the relation "can make" between such
-// lists and messages. No call changes the relation, and a refused call leaves the list.
+// All that counts of an attacker: what it has heard, the oldest message first, and the relation "can make", which says
+// for each list of messages what can be made from it. The relation stays through every call, and so does the list where
+// a call refuses.
 pub trait Attacker {
     ghost heard: { Self → List (List ℕ) };
 

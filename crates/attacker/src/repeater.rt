@@ -1,4 +1,4 @@
-// The repeater: it makes exactly what it has heard whole.
+// The repeater can only say again what it heard, message by message.
 ghost use Prim.Native.Nat.{_≤_};
 ghost use Rattle.std.specs.Of.Vec.{vec-len, vec-cap};
 use message::closed::Message;

@@ -76,6 +76,6 @@ isKey b = standsForKey (symbol b)
 unfoldable pub isLocking : ℕ → Bool
 isLocking b = canLock (symbol b)
 
--- a shared key is its own inverse; an even pair key k and k + 1 are each other's
+-- a shared key opens its own locks; pair keys go in twos, an even one and the next, and each opens what the other locks
 abbrev pub inverseOf : ℕ → Option ℕ
 inverseOf b = cond (ltb b 0x50) None (cond (ltb b 0x60) (Some b) (cond (ltb b 0x70) (Some (cond (eqb (b % 2) 0) (b + 1) (b - 1))) None))

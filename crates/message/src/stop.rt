@@ -6,31 +6,31 @@ ghost use Rattle.message.specs.Stops.{numberOf};
 pub enum Stop {
     // a file of over 8,192 bytes
     FileTooLong,
-    // a header, a value or the end field is missing or incomplete
+    // a field's header or value, or the end field, is not there or cut short
     Incomplete,
-    // an unknown tag, a tag out of order, or a whole field after the end
+    // a tag that is not known or stands out of order, or a field after the end
     MisplacedTag,
-    // a length that the field's tag does not allow
+    // another length than the tag allows
     WrongLength,
-    // a label byte outside 21–7E
+    // a label with a byte below 21 or above 7E
     BadLabel,
     // not one form of 1 to 24 bytes
     NotOneForm,
     // a variable where a message is due
     VariableInMessage,
-    // an atom that no earlier field declares
+    // an atom that is used and not declared by then
     UndeclaredAtom,
     // an atom declared again, or variables that do not ascend
     NotAscending,
     // a limit passed
     LimitPassed,
-    // the next part begins before a needed step, role, session, claim or sheet head
+    // a new part of a file while a step, role, session, claim or sheet head is still owed
     PartMissing,
-    // a kind, atom, mark, role or session out of range, or a variable in no form of the role
+    // a number beyond its range: kind, atom, mark, role or session; or a variable that no form of the role has
     OutOfRange,
-    // a variable in a send, begin or end that was neither started nor received before
+    // a send, begin or end with a variable that has no value by then
     UnboundVariable,
-    // a starting atom of another kind than its variable
+    // a starting value of another kind than its variable
     WrongKind,
     // a receive with more than 3 new variables
     TooManyNewVariables,
@@ -50,7 +50,7 @@ pub enum Stop {
     NotClosedForm,
     // 128 messages are heard already
     HeardEnough,
-    // a fall back to more messages than are heard
+    // a fall back that names more messages than there are
     AboveCount,
     // a line of a sheet is not permitted
     LineNotPermitted,
