@@ -44,13 +44,13 @@ derivable-more xs ys w (right-half d) = right-half (derivable-more xs ys w d)
 derivable-more xs ys w (encryption i d e) = encryption i (derivable-more xs ys w d) (derivable-more xs ys w e)
 derivable-more xs ys w (decryption i d e) = decryption i (derivable-more xs ys w d) (derivable-more xs ys w e)
 
--- what can be made from a list can be made from every list that has all its messages
+-- whoever has heard all that another heard can make all that the other can
 pub derives-monotone : Monotone derives
 derives-monotone xs ys w m h =
     let c : CanMake xs m = derives-sound xs m h in
     derives-complete ys m (c .0, c .1, derivable-more xs ys w (c .2))
 
--- each message of a list can be made from it
+-- what was heard can be said again
 pub derives-own : Own derives
 derives-own xs m i h = go (messageOf m) refl i
   where

@@ -15,10 +15,10 @@ has (x ∷ xs) m = sameBytes x m || has xs m
 abbrev pub Within : List (List ℕ) → List (List ℕ) → Type 0
 Within xs ys = (m : List ℕ) → has xs m ≡ true → has ys m ≡ true
 
--- first law: what can be made from a list can be made from every list that has all its messages
+-- first law: whoever has heard all that another heard can make all that the other can
 abbrev pub Monotone : (List (List ℕ) → List ℕ → Bool) → Type 0
 Monotone makes = (xs ys : List (List ℕ)) → Within xs ys → (m : List ℕ) → makes xs m ≡ true → makes ys m ≡ true
 
--- second law: each message of a list can be made from it
+-- second law: what was heard can be said again
 abbrev pub Own : (List (List ℕ) → List ℕ → Bool) → Type 0
 Own makes = (xs : List (List ℕ)) (m : List ℕ) → isMessage m ≡ true → has xs m ≡ true → makes xs m ≡ true

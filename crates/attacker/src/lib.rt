@@ -24,10 +24,10 @@ pub trait Attacker {
 
     ghost makes: { Self → List (List ℕ) → List ℕ → Bool };
 
-    // What can be made from a list can be made from every list that has all its messages.
+    // Whoever has heard all that another heard can make all that the other can.
     law monotone: { (a : Self) → Monotone (makes a) };
 
-    // Each message of a list can be made from it.
+    // What was heard can be said again.
     law own: { (a : Self) → Own (makes a) };
 
     // How many messages it has heard, never more than 128.

@@ -1,4 +1,4 @@
--- Bytes have at most one reading as a form: writing a form and reading it gives it back, and nothing else does.
+-- Bytes are read as at most one form, the one that is written so.
 use mathlib.Core.Path.{_≡_, refl, sym, ap, subst, _∙_}
 use mathlib.Core.List.{List, [], _∷_, _++_, append-assoc, append-nil}
 use mathlib.Core.Bool.{Bool, true, false, _&&_}

@@ -9,8 +9,8 @@ use Rattle.message.specs.declared.kind.Kind.the-variants.{Name, Nonce, Data, S
 use Rattle.message.specs.declared.kind.Symbol.{Symbol}
 use Rattle.message.specs.declared.kind.Symbol.the-variants.{Atom, Variable, Join, Lock, Unused}
 
--- names 00–1F, nonces 20–3F, data 40–4F, shared keys 50–5F, pair keys 60–6F;
--- their variables 80–8F, 90–9F, A0–AF, B0–BF, C0–CF; F0 joins two forms, F1 locks one
+-- what a byte stands for: below 70 the atoms of the five kinds, from 80 to CF sixteen variables for each kind,
+-- then F0, which joins two forms, and F1, which locks one; the bytes between mean nothing
 abbrev pub symbol : ℕ → Symbol
 symbol b =
     cond (ltb b 0x20) (Atom Name) (
