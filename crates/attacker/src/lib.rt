@@ -15,6 +15,8 @@ mod known;
 pub mod listening;
 mod mark;
 pub mod repeater;
+#[cfg(test)]
+mod tests;
 
 // All that counts of an attacker: what it has heard, the oldest message first, and the relation "can make", which says
 // for each list of messages what can be made from it. The relation stays through every call, and so does the list where

@@ -1,5 +1,8 @@
 // Worked examples.
+use crate::closed::Message;
+use crate::closed::methods::MessageEq;
 use crate::form::Form;
+use crate::form::methods::FormEq;
 use crate::kind::inverse;
 use crate::reader::same_bytes;
 use crate::stop::StopDebug;
@@ -24,6 +27,27 @@ fn fills_a_locked_form() -> Result<(), Fail> {
     check(values.bind(0xA0, 0x40))?;
     match form.fill(&values) {
         Some(message) => check(same_bytes(message.bytes(), &[0xF1, 0x50, 0x40])),
+        None => check(false),
+    }
+}
+
+#[test]
+fn unbinds_a_variable() -> Result<(), Fail> {
+    let mut values = Values::none();
+    check(values.bind(0xA0, 0x40))?;
+    check_eq(values.value(0xA0), Some(0x40))?;
+    values.unbind(0xA0);
+    check_eq(values.value(0xA0), None)
+}
+
+#[test]
+fn compares_by_bytes() -> Result<(), Fail> {
+    let lock = Form::read(&[0xF1, 0x60, 0x40])?;
+    let other = Form::read(&[0xF1, 0x60, 0x41])?;
+    check(lock == Form::read(&[0xF1, 0x60, 0x40])?)?;
+    check(!(lock == other))?;
+    match Message::read(lock.bytes()) {
+        Some(message) => check(message == message && message.form() == lock),
         None => check(false),
     }
 }
