@@ -1,4 +1,6 @@
 // Attackers on the shared line: what they have heard, and what they can make of it.
+#![tactic(auto)]
+
 ghost use Rattle.std.specs.Prelude.{◌≡◌, ℕ, ◌≤◌, Bool, List, length, take};
 ghost use Rattle.attacker.specs.Calls.{hear_answer, heard_after, ask_answer, back_answer};
 ghost use Rattle.attacker.specs.Laws.{Monotone, Own};

@@ -1,4 +1,6 @@
 // Reads commands, a line each, and prints what two attackers answer: the full one and the repeater.
+#![tactic(auto)]
+
 ghost use Rattle.std.specs.Prelude.{◌≡◌, IfOk, OnOk};
 ghost use Rattle.can_make.specs.Turns.{turn, unfed};
 ghost use Rattle.command.specs.Saying.{command_of};

@@ -1,4 +1,6 @@
 // Reads a line of text as a command: bytes to hear, bytes to ask for, or how far to fall back.
+#![tactic(auto)]
+
 ghost use Rattle.std.specs.Prelude.{◌≡◌, ◌<◌, ◌≤◌, length, IfSome, IfOk, vec_items};
 ghost use Rattle.command.specs.Line.{blank, unreturned, word_length, word_of, rest_of, unblanked};
 ghost use Rattle.command.specs.Saying.{seen, spoken, command_of};

@@ -1,4 +1,6 @@
 // Exchanges: declared atoms, opening messages, roles, sessions and claims; and the files that they are kept in.
+#![tactic(auto)]
+
 pub mod claim;
 pub mod declaration;
 pub mod exchange;

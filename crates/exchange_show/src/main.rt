@@ -1,4 +1,6 @@
 // Reads an exchange file and prints what it says, or where it was refused.
+#![tactic(auto)]
+
 use report::report;
 use std::io;
 use std::io::{Read, Write};

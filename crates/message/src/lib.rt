@@ -1,4 +1,6 @@
 // Messages of a lift's shared line: atoms and their kinds, forms and messages, filling, and the list of stops.
+#![tactic(auto)]
+
 pub mod closed;
 pub mod form;
 pub mod kind;

@@ -6,10 +6,10 @@ pub returns-in-Variable-Atom : goal.returns-in-Variable-Atom
 unfolding of_kind
 returns-in-Variable-Atom c = search rules
 
-pub returns-in-default : goal.returns-in-default
+pub returns-in_default : goal.returns-in_default
 unfolding of_kind
-returns-in-default c = search rules
+returns-in_default c = search rules
 
-pub returns-in-default·2 : goal.returns-in-default·2
+pub returns-in_default-2 : goal.returns-in_default-2
 unfolding of_kind
-returns-in-default·2 c = search rules
+returns-in_default-2 c = search rules

@@ -1,5 +1,5 @@
 use Rattle.std.proofs.Common.{length}
 use Rattle.message.proofs.reader.+form_length.Given as goal
 
-abbrev pub decreases-form-length : goal.decreases-form-length
-decreases-form-length l = length l.bytes.now
+abbrev pub decreases-form_length : goal.decreases-form_length
+decreases-form_length l = length l.bytes.now

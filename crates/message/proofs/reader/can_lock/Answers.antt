@@ -10,14 +10,14 @@ pub returns-in-Variable-SharedKey : goal.returns-in-Variable-SharedKey
 unfolding is_locking
 returns-in-Variable-SharedKey c = search rules
 
-pub returns-in-default : goal.returns-in-default
+pub returns-in_default : goal.returns-in_default
 unfolding is_locking
-returns-in-default c = search rules
+returns-in_default c = search rules
 
-pub returns-in-default·2 : goal.returns-in-default·2
+pub returns-in_default-2 : goal.returns-in_default-2
 unfolding is_locking
-returns-in-default·2 c = search rules
+returns-in_default-2 c = search rules
 
-pub returns-in-default·3 : goal.returns-in-default·3
+pub returns-in_default-3 : goal.returns-in_default-3
 unfolding is_locking
-returns-in-default·3 c = search rules
+returns-in_default-3 c = search rules

@@ -6,6 +6,6 @@ pub returns-in-Variable : goal.returns-in-Variable
 unfolding is_variable
 returns-in-Variable c = search rules
 
-pub returns-in-default : goal.returns-in-default
+pub returns-in_default : goal.returns-in_default
 unfolding is_variable
-returns-in-default c = search rules
+returns-in_default c = search rules

@@ -7,30 +7,36 @@ use Rattle.message.specs.Values.{value_in}
 use Rattle.message.proofs.FillLoop.{fill_more, fill_stops, fill_none, fill_all, fill_padded, fill_closed, fill_read}
 use Rattle.message.proofs.form.Form.fill.Goals as goal
 
-pub returns-in-err-bytes : goal.returns-in-err-bytes
-returns-in-err-bytes c =
+pub returns-in_err-bytes : goal.returns-in_err-bytes
+returns-in_err-bytes c =
     let form = c.args.self.now in
     let values = c.args.values.now in
-    let none = fill_stops form values c.loop-i.bytes c.loop-i.i c.loop-i.invariant c.loop-i-test.true c.in-err-bytes.ensures.value in
-    let is = c.from-residual.ensures in
+    let none = fill_stops form values c.loop-i.bytes c.loop-i.i c.loop-i.invariant c.loop-i-test.true c.in_err-bytes.ensures.value in
+    let is = c.from_residual.ensures in
     record {
       value = ap (option_map message_text) is ∙ sym none;
       tree = λ t e. subst (λ r. MatchOption r (fill_tree (value_in values) t ≡ None) (λ m. (u : Tree) × (fill_tree (value_in values) t ≡ Some u) × (message_of (message_text m) ≡ Some u))) (sym is) (fill_none form values none t e);
     }
 
 pub loop-i-preserved : goal.loop-i-preserved
-loop-i-preserved c = fill_more c.args.self.now c.args.values.now c.loop-i.bytes c.loop-i.i c.loop-i.invariant c.loop-i-test.true c.in-ok-bytes.field-0 c.in-ok-bytes.ensures.value
+loop-i-preserved c = fill_more c.args.self.now c.args.values.now c.loop-i.bytes c.loop-i.i c.loop-i.invariant c.loop-i-test.true c.in_ok-bytes.field-0 c.in_ok-bytes.ensures.value
 
-pub invariant-of-form : goal.invariant-of-form
-invariant-of-form c =
+pub invariant_of-form : goal.invariant_of-form
+invariant_of-form c =
     let form = c.args.self.now in
     let values = c.args.values.now in
     let at : c.loop-i.i ≡ form.len = omega arith in
     let so = c.loop-i.invariant in
-    (so.whole, (form.fits, (fill_padded form values c.loop-i.bytes c.loop-i.i so at, ((fill_closed form values c.loop-i.bytes c.loop-i.i so at).0, tt))))
+    record {
+      whole = so.whole;
+      fits = form.fits;
+      padded = fill_padded form values c.loop-i.bytes c.loop-i.i so at;
+      reads = (fill_closed form values c.loop-i.bytes c.loop-i.i so at).0;
+    }
 
-pub invariant-of-result : goal.invariant-of-result
-invariant-of-result c = ((fill_closed c.args.self.now c.args.values.now c.loop-i.bytes c.loop-i.i c.loop-i.invariant (omega arith)).1, tt)
+pub invariant_of-result : goal.invariant_of-result
+invariant_of-result c =
+    record { fixed = (fill_closed c.args.self.now c.args.values.now c.loop-i.bytes c.loop-i.i c.loop-i.invariant (omega arith)).1 }
 
 pub returns : goal.returns
 returns c =

@@ -4,7 +4,7 @@ use Rattle.message.specs.Variables.{is_new, firsts, InOrder}
 use Rattle.message.proofs.Firsts.{firsts_in_order}
 use Rattle.message.proofs.FirstsLoop.{found_new, found_old, found_all, found_as, cut}
 use Rattle.message.proofs.form.Form.variables.Goals as goal
-use Rattle.message.proofs.form.Form.variables.Goals.{then-is-new, else-is-new}
+use Rattle.message.proofs.form.Form.variables.Goals.{then-is_new, else-is_new}
 
 pub loop-byte-preserved : goal.loop-byte-preserved
 loop-byte-preserved c =
@@ -14,9 +14,9 @@ loop-byte-preserved c =
     let count = c.loop-byte.count in
     let b = get_or bs i 0 in
     let same = ap (λ l. is_new l b) (cut names count) in
-    elim c.if-is-new.branch [
-      | then-is-new w ↦ found_as bs (set names count b) c.if-is-new.names (count + 1) c.if-is-new.count (i + 1) (found_new bs names count i c.loop-byte.invariant c.loop-byte-test.true (same ∙ sym w.if-is-new.ensures.value)) w.names-is w.count-is
-      | else-is-new w ↦ found_as bs names c.if-is-new.names count c.if-is-new.count (i + 1) (found_old bs names count i c.loop-byte.invariant c.loop-byte-test.true (same ∙ sym w.if-is-new.ensures.value)) w.names-is w.count-is
+    elim c.if-is_new.branch [
+      | then-is_new w ↦ found_as bs (set names count b) c.if-is_new.names (count + 1) c.if-is_new.count (i + 1) (found_new bs names count i c.loop-byte.invariant c.loop-byte-test.true (same ∙ sym w.if-is_new.ensures.value)) w.names-is w.count-is
+      | else-is_new w ↦ found_as bs names c.if-is_new.names count c.if-is_new.count (i + 1) (found_old bs names count i c.loop-byte.invariant c.loop-byte-test.true (same ∙ sym w.if-is_new.ensures.value)) w.names-is w.count-is
     ]
 
 pub returns : goal.returns

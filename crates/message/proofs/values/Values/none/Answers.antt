@@ -4,8 +4,8 @@ use Rattle.message.specs.Filling.{fitting}
 use Rattle.message.proofs.Atoms.{none_at, chosen_none}
 use Rattle.message.proofs.values.Values.none.Goals as goal
 
-pub invariant-of-result : goal.invariant-of-result
-invariant-of-result c = (refl, (λ i. ap (fitting (0x80 + i)) (none_at 80 i), tt))
+pub invariant_of-result : goal.invariant_of-result
+invariant_of-result c = record { whole = refl; fit = λ i. ap (fitting (0x80 + i)) (none_at 80 i) }
 
 pub returns : goal.returns
 returns c = record { empty = λ v. chosen_none (is_variable v) (none_at 80 (v - 0x80)) }
