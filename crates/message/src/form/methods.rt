@@ -4,7 +4,7 @@ ghost use Rattle.message.specs.declared.stop.Stop.TheVariants.{NotOneForm};
 ghost use Rattle.message.specs.Forms.{text, padding, OneForm};
 ghost use Rattle.message.specs.Trees.{Tree, write, is_form, Fits, OneReading};
 ghost use Rattle.std.specs.Cmp.Rules.{comparing};
-ghost use Rattle.std.proofs.Common.{rules, arith};
+ghost use Rattle.std.proofs.Common.{rules};
 
 use crate::form::Form;
 use crate::reader::{form_length, same_bytes};
@@ -55,7 +55,7 @@ impl Form {
 impl PartialEq for Form {
     ghost eq = { λ a b. bytes_eq (text a) (text b) };
 
-    ghost laws = { first_of (Prim.search (comparing, rules), Prim.grind (arith, Self.row.coded.inj)) };
+    ghost laws = { Prim.search (comparing, rules) };
 
     fn eq(&self, other: &Form) -> bool {
         same_bytes(self.bytes(), other.bytes())
