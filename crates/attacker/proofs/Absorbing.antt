@@ -1,5 +1,5 @@
 -- What is kept when a message is taken apart. Assumes nothing.
-use Rattle.std.proofs.Common.{◌≡◌, ℕ, ◌+◌, ◌-◌, ◌<◌, ◌≤◌, Bool, true, false, cond, ◌&&◌, ◌||◌, eqb, ltb, ◌⊎◌, List, [], ◌∷◌, ◌++◌, length, get_or, take, drop, is_some, Some, None, Option, sym, refl, ap, ◌∙◌, subst, ⊎_elim, append_assoc, append-nil, arith, length-append, le-ltb, lt-ltb}
+use Rattle.std.proofs.Common.{◌≡◌, ℕ, ◌+◌, ◌-◌, ◌<◌, ◌≤◌, Bool, true, false, cond, ◌&&◌, ◌||◌, eqb, ltb, ◌⊎◌, List, [], ◌∷◌, ◌++◌, length, get_or, take, drop, is_some, Some, None, Option, sym, refl, ap, ◌∙◌, ⊎_elim, append_assoc, append-nil, arith, length-append, le-ltb, lt-ltb}
 use mathlib.Core.Bool.{or-false, or_assoc}
 use borrow.Author.Tests.{clash}
 use Rattle.std.specs.Option.{option_map}
@@ -8,8 +8,8 @@ use Rattle.std.proofs.lemmas.Bool.{cases_lt, and_parts}
 use Rattle.message.specs.declared.kind.Kind.{Kind}
 use Rattle.message.specs.declared.kind.Symbol.{Symbol}
 use Rattle.message.specs.declared.kind.Symbol.TheVariants.{Atom, Variable, Join, Lock, Unused}
-use Rattle.message.specs.Bytes.{symbol, is_atom, is_variable, is_locking, stands_for_atom, stands_for_variable, can_lock}
-use Rattle.message.specs.Trees.{Tree, atom, variable, joined, locked, proper, write, size, reads, form_of, closed, message_of, is_message, Fits}
+use Rattle.message.specs.Bytes.{symbol, is_atom, is_variable, is_locking, stands_for_atom, can_lock}
+use Rattle.message.specs.Trees.{Tree, atom, variable, joined, locked, proper, write, size, reads, form_of, closed, message_of, is_message}
 use Rattle.message.proofs.NoVariable.{closed_on}
 use Rattle.message.proofs.OneReading.{form_write, reads_write, size_write}
 use Rattle.message.proofs.Reading.{Says}

@@ -1,7 +1,6 @@
 -- What the calls answer, from the tests that they make. Assumes nothing.
-use Rattle.std.proofs.Common.{◌≡◌, ℕ, ◌<◌, ◌≤◌, Bool, true, false, cond, ◌&&◌, ltb, leb, List, [], ◌∷◌, ◌++◌, length, take, Ok, Err, Result, sym, refl, ap, ◌∙◌, le-ltb, lt-ltb, le-leb}
+use Rattle.std.proofs.Common.{◌≡◌, ℕ, ◌<◌, ◌≤◌, Bool, true, cond, ◌&&◌, ltb, List, [], ◌∷◌, ◌++◌, length, take, Ok, Err, sym, ap, ◌∙◌, le-ltb, lt-ltb, le-leb}
 use borrow.Author.Tests.{lt-leb}
-use Rattle.message.specs.declared.stop.Stop.{Stop}
 use Rattle.message.specs.declared.stop.Stop.TheVariants.{NotClosedForm, HeardEnough, AboveCount}
 use Rattle.message.specs.declared.closed.Message.{Message}
 use Rattle.message.specs.Messages.{message_text}

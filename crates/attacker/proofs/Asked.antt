@@ -1,20 +1,20 @@
 -- What the walk over a message answers, part by part. Assumes nothing.
-use Rattle.std.proofs.Common.{◌≡◌, ℕ, ◌+◌, ◌<◌, ◌≤◌, Bool, true, false, ◌&&◌, ◌||◌, List, [], ◌∷◌, ◌++◌, length, get_or, take, drop, Some, None, Option, sym, refl, ap, ◌∙◌, subst, arith, length-append}
+use Rattle.std.proofs.Common.{◌≡◌, ℕ, ◌+◌, ◌<◌, Bool, true, false, ◌&&◌, ◌||◌, List, ◌∷◌, length, get_or, take, drop, Some, sym, ap, ◌∙◌, arith}
 use mathlib.Core.Bool.{and-false, or_comm}
 use borrow.Author.Tests.{clash}
 use Rattle.std.proofs.lemmas.Bool.{and_parts}
 use Rattle.message.specs.declared.kind.Kind.{Kind}
 use Rattle.message.specs.declared.kind.Symbol.{Symbol}
 use Rattle.message.specs.declared.kind.Symbol.TheVariants.{Atom, Variable, Join, Lock, Unused}
-use Rattle.message.specs.Bytes.{symbol, is_variable, is_locking, is_key, stands_for_atom, stands_for_variable, stands_for_key, can_lock}
-use Rattle.message.specs.Trees.{Tree, atom, variable, joined, locked, proper, write, size}
+use Rattle.message.specs.Bytes.{symbol, is_variable, is_locking, is_key, stands_for_variable, stands_for_key, can_lock}
+use Rattle.message.specs.Trees.{Tree, joined, locked, proper, write}
 use Rattle.message.proofs.Reading.{Says}
 use Rattle.attacker.specs.declared.atoms.Atoms.{Atoms}
 use Rattle.attacker.specs.Atoms.{within}
 use Rattle.attacker.specs.Derivation.{builds}
 use Rattle.attacker.specs.Known.{known_by, ClosedForm}
 use Rattle.attacker.specs.Laws.{has}
-use Rattle.attacker.proofs.Absorbing.{at_atom, at_join, at_lock, at_none, halves, closed_first, left_form, right_form, inner_form}
+use Rattle.attacker.proofs.Absorbing.{at_atom, at_join, at_lock, halves, closed_first, left_form, right_form, inner_form}
 use Rattle.attacker.proofs.Kept.{form_fits}
 
 -- what locks a form with no variable is a key

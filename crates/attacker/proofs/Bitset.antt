@@ -1,9 +1,9 @@
 -- The bits of a set of atoms. Assumes nothing.
-use Rattle.std.proofs.Common.{◌≡◌, ℕ, zero, suc, ◌+◌, ◌-◌, ◌*◌, ◌/◌, ◌%◌, ◌^◌, ◌<◌, ◌≤◌, Bool, true, false, ◌&&◌, ◌||◌, eqb, ltb, sym, refl, ap, ◌∙◌, ⊎_elim, one-mul, pow-suc, arith, le-ltb, lt-ltb, eq-eqb, ne_eqb}
+use Rattle.std.proofs.Common.{◌≡◌, ℕ, zero, suc, ◌+◌, ◌-◌, ◌/◌, ◌%◌, ◌^◌, ◌<◌, ◌≤◌, true, false, ◌&&◌, ◌||◌, eqb, ltb, sym, refl, ap, ◌∙◌, ⊎_elim, one-mul, pow-suc, arith, le-ltb, lt-ltb, eq-eqb, ne_eqb}
 use mathlib.Core.Bool.{and-false, or-true, or-false}
-use native.Mathlib.Nat.{zero-div, zero-mod, mul-mod_left, div-eq_of_lt}
+use native.Mathlib.Nat.{zero-div, mul-mod_left, div-eq_of_lt}
 use lib.Bits.{bit_and, bit_or, or_zero_r, or_add_and}
-use Rattle.std.proofs.lemmas.Nat.{pow-add, shl-shr, and_mask, or_shr, or_mod, and_le_r, pow_below, mod_below, one_shl}
+use Rattle.std.proofs.lemmas.Nat.{pow-add, shl-shr, and_mask, or_shr, or_mod, and_le_r, pow_below, mod_below}
 use Rattle.std.proofs.lemmas.Bool.{cases_eq, cases_lt}
 use Rattle.attacker.specs.declared.atoms.Atoms.{Atoms}
 use Rattle.attacker.specs.Atoms.{within}

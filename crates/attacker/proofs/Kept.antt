@@ -1,18 +1,16 @@
 -- What is known once a message has been taken apart and its parts kept. Assumes nothing.
-use Rattle.std.proofs.Common.{◌≡◌, ℕ, ◌+◌, ◌≤◌, Bool, true, false, ◌&&◌, ◌||◌, eqb, leb, ◌⊎◌, List, [], ◌∷◌, ◌++◌, length, Some, None, Option, sym, refl, ap, ◌∙◌, subst, inl, inr, append-nil, arith, le-leb, leb-true}
+use Rattle.std.proofs.Common.{◌≡◌, ℕ, ◌+◌, Bool, true, false, ◌&&◌, leb, ◌⊎◌, List, [], ◌∷◌, ◌++◌, Some, Option, sym, ap, ◌∙◌, subst, inl, inr, arith, le-leb, leb-true}
 use borrow.Author.Tests.{clash}
 use Rattle.std.specs.Str.{bytes_eq}
 use Rattle.std.proofs.lemmas.Slice.Eq.{bytes_eq-Decides}
 use Rattle.std.proofs.lemmas.Bool.{or_cases, or_left, or_right, and_parts, and_from}
-use Rattle.message.specs.Trees.{Tree, atom, variable, joined, locked, proper, write, size, reads, closed, Fits}
+use Rattle.message.specs.Trees.{Tree, atom, variable, joined, locked, proper, write, size, reads, closed}
 use Rattle.message.proofs.OneReading.{reads_write}
-use Rattle.attacker.specs.declared.atoms.Atoms.{Atoms}
-use Rattle.attacker.specs.Atoms.{within}
-use Rattle.attacker.specs.Derivation.{same_tree, stands, opens, parts}
-use Rattle.attacker.specs.Known.{atom_known, fitting, known_by, composites, ClosedForm, With, Absorbs}
+use Rattle.attacker.specs.Derivation.{stands, opens, parts}
+use Rattle.attacker.specs.Known.{fitting, composites, ClosedForm}
 use Rattle.attacker.specs.Laws.{has}
-use Rattle.attacker.proofs.Absorbing.{left_form, right_form, inner_form, no_variable}
-use Rattle.attacker.specs.Standing.{same_self, same_equal, stands_first, stands_later, stands_cases, stands_none, stands_either}
+use Rattle.attacker.proofs.Absorbing.{left_form, right_form, inner_form}
+use Rattle.attacker.specs.Standing.{stands_first, stands_later, stands_cases, stands_none, stands_either}
 
 -- the test for a form with no variable
 pub form_fits : (t : Tree) → ClosedForm t → fitting t ≡ true

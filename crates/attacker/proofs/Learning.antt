@@ -1,23 +1,20 @@
 -- Hearing one message more: what is known before and after. Assumes nothing.
-use Rattle.std.proofs.Common.{◌≡◌, ℕ, ◌+◌, Bool, true, false, ◌&&◌, ◌||◌, ◌⊎◌, List, [], ◌∷◌, ◌++◌, is_some, Some, Option, sym, refl, ap, ◌∙◌, subst, inl, inr, append_assoc, append-nil}
-use borrow.Author.Tests.{clash}
+use Rattle.std.proofs.Common.{◌≡◌, ℕ, ◌+◌, true, false, List, [], ◌∷◌, ◌++◌, is_some, Some, Option, sym, refl, ap, ◌∙◌, subst, inl, inr, append_assoc, append-nil}
 use Rattle.std.specs.Str.{bytes_eq}
 use Rattle.std.proofs.lemmas.Slice.Eq.{bytes_eq-Decides}
 use Rattle.std.proofs.lemmas.Bool.{or_left, and_parts, and_from}
 use Rattle.message.specs.declared.closed.Message.{Message}
-use Rattle.message.specs.Bytes.{inverse_of}
 use Rattle.message.specs.Messages.{message_text}
-use Rattle.message.specs.Trees.{Tree, atom, variable, joined, locked, write, closed, message_of, is_message}
+use Rattle.message.specs.Trees.{Tree, locked, write, closed, message_of, is_message}
 use Rattle.message.proofs.OneReading.{form_written}
 use Rattle.attacker.specs.declared.atoms.Atoms.{Atoms}
-use Rattle.attacker.specs.Atoms.{within}
 use Rattle.attacker.specs.Derivation.{Derivable, heard_whole, parts, Knowledge}
 use Rattle.attacker.specs.Known.{atom_known, fitting, known_by, composites, signs, weights, ClosedForm, Absorbs, Open, Opens, Inside, Parted}
 use Rattle.attacker.specs.Laws.{has}
 use Rattle.attacker.proofs.Absorbing.{message_write}
 use Rattle.attacker.specs.Deciding.{derivable_more}
 use Rattle.attacker.proofs.Kept.{form_fits, fits_form, has_before, has_behind, has_either}
-use Rattle.attacker.proofs.Scanning.{has_one, open_still, open_both}
+use Rattle.attacker.proofs.Scanning.{has_one}
 use Rattle.attacker.proofs.Weighing.{weights_append, weights_parts}
 use Rattle.attacker.proofs.Stepping.{known_still, known_or_out, out_open, whole_known, justified_on, left_on, right_on}
 

@@ -1,5 +1,5 @@
 -- The marks of the full attacker, as it starts, hears one message more, and falls back. Assumes nothing.
-use Rattle.std.proofs.Common.{◌≡◌, ℕ, zero, suc, ◌+◌, ◌*◌, ◌<◌, ◌≤◌, Bool, true, false, ◌&&◌, List, [], ◌∷◌, ◌++◌, length, get_or, take, sym, refl, ap, ◌∙◌, subst, ⊎_elim, arith}
+use Rattle.std.proofs.Common.{◌≡◌, ℕ, zero, suc, ◌+◌, ◌*◌, ◌<◌, ◌≤◌, true, false, List, [], ◌∷◌, ◌++◌, length, get_or, take, sym, ◌∙◌, subst, ⊎_elim, arith}
 use borrow.Author.Tests.{clash}
 use Rattle.std.proofs.lemmas.List.{take_all, take-take, take-append-le, get_or_append_left, get_or_push, get_or-take, length_push, length-take-le}
 use Rattle.std.proofs.lemmas.Bool.{cases_lt, and_parts}
@@ -8,8 +8,7 @@ use Rattle.attacker.specs.declared.atoms.Atoms.{Atoms}
 use Rattle.attacker.specs.declared.mark.Mark.{Mark}
 use Rattle.attacker.specs.Atoms.{within}
 use Rattle.attacker.specs.Derivation.{Knowledge}
-use Rattle.attacker.specs.Known.{fitting, known_by, sign, signs, weights, ClosedForm}
-use Rattle.attacker.specs.Laws.{has}
+use Rattle.attacker.specs.Known.{fitting, known_by, signs, weights, ClosedForm}
 use Rattle.attacker.specs.Marks.{no_mark, AllKnown, Roomy, Rising}
 use Rattle.attacker.proofs.Absorbing.{atom_small, no_variable, left_form, right_form, inner_form}
 use Rattle.attacker.proofs.Signs.{signs_append}

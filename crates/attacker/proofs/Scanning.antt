@@ -1,18 +1,18 @@
 -- Going through the kept parts and opening the locks that open now. Assumes nothing.
-use Rattle.std.proofs.Common.{◌≡◌, ℕ, ◌+◌, ◌<◌, ◌≤◌, Bool, true, false, not, ◌&&◌, ◌||◌, eqb, ◌⊎◌, List, [], ◌∷◌, ◌++◌, length, get_or, take, drop, Some, None, MatchBool, Option, sym, refl, ap, ◌∙◌, subst, inl, inr, append_assoc, append-nil, arith, eqb-true}
+use Rattle.std.proofs.Common.{◌≡◌, ℕ, ◌+◌, ◌<◌, ◌≤◌, Bool, true, false, not, ◌&&◌, List, [], ◌∷◌, ◌++◌, length, get_or, take, drop, Some, MatchBool, sym, refl, ap, ◌∙◌, subst, inl, inr, append_assoc, append-nil, arith}
 use borrow.Author.Tests.{clash}
 use Rattle.std.specs.Str.{bytes_eq}
 use Rattle.std.proofs.lemmas.Slice.Eq.{bytes_eq-Decides}
 use Rattle.std.proofs.lemmas.List.{take_all, drop_all, take-append-drop, take_more, drop_more, get_or_append_left, length-append, length-drop, length-take-le}
 use Rattle.std.proofs.lemmas.Bool.{or_cases, or_left, and_parts, and_from}
-use Rattle.message.specs.Bytes.{inverse_of, is_locking}
+use Rattle.message.specs.Bytes.{inverse_of}
 use Rattle.message.specs.Trees.{Tree, atom, variable, joined, locked, write}
 use Rattle.attacker.specs.declared.atoms.Atoms.{Atoms}
 use Rattle.attacker.specs.Atoms.{within}
 use Rattle.attacker.specs.Derivation.{Derivable, decryption, opens, parts}
-use Rattle.attacker.specs.Known.{atom_known, fitting, known_by, composites, sign, signs, weight, weights, opens_now, ClosedForm, Absorbs, Open, Inside, Parted}
+use Rattle.attacker.specs.Known.{atom_known, fitting, known_by, composites, signs, weight, weights, opens_now, ClosedForm, Absorbs, Open, Inside, Parted}
 use Rattle.attacker.specs.Laws.{has}
-use Rattle.attacker.proofs.Absorbing.{inner_form, atom_small, no_variable}
+use Rattle.attacker.proofs.Absorbing.{inner_form, no_variable}
 use Rattle.attacker.specs.Closing.{opens_from, opens_by}
 use Rattle.attacker.proofs.Kept.{form_fits, same_written, has_before, has_behind, has_either}
 use Rattle.attacker.proofs.Stepping.{known_still, whole_known, kept_open, parted_on}

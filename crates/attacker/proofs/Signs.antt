@@ -1,5 +1,5 @@
 -- How many joined and locked parts a text has, and the room that kept texts take. Assumes nothing.
-use Rattle.std.proofs.Common.{◌≡◌, ℕ, suc, ◌+◌, ◌*◌, ◌<◌, ◌≤◌, Bool, true, false, cond, ◌||◌, eqb, List, [], ◌∷◌, ◌++◌, length, get_or, take, drop, sym, refl, ap, ◌∙◌, subst, arith, take-append-drop}
+use Rattle.std.proofs.Common.{◌≡◌, ℕ, ◌+◌, ◌<◌, ◌≤◌, List, [], ◌∷◌, ◌++◌, length, get_or, take, drop, sym, ap, ◌∙◌, arith, take-append-drop}
 use Rattle.message.specs.declared.kind.Symbol.TheVariants.{Join, Lock}
 use Rattle.message.specs.Bytes.{symbol}
 use Rattle.attacker.specs.Known.{sign, signs}

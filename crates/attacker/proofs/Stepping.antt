@@ -1,12 +1,12 @@
 -- What is known after one message is taken apart, from what was known before. Assumes nothing.
-use Rattle.std.proofs.Common.{◌≡◌, ℕ, Bool, true, false, ◌&&◌, ◌||◌, ◌⊎◌, List, [], ◌∷◌, ◌++◌, Some, sym, refl, ap, ◌∙◌, subst, inl, inr}
+use Rattle.std.proofs.Common.{◌≡◌, ℕ, true, ◌&&◌, ◌||◌, ◌⊎◌, List, ◌++◌, Some, sym, refl, ◌∙◌, subst, inl, inr}
 use borrow.Author.Tests.{clash}
 use Rattle.std.proofs.lemmas.Bool.{or_cases, or_left, or_right, and_parts, and_from}
 use Rattle.message.specs.Bytes.{inverse_of}
-use Rattle.message.specs.Trees.{Tree, atom, variable, joined, locked, write, message_of}
+use Rattle.message.specs.Trees.{Tree, atom, variable, joined, locked, write}
 use Rattle.attacker.specs.declared.atoms.Atoms.{Atoms}
 use Rattle.attacker.specs.Atoms.{within}
-use Rattle.attacker.specs.Derivation.{Derivable, stands, opens, parts}
+use Rattle.attacker.specs.Derivation.{Derivable, stands, parts}
 use Rattle.attacker.specs.Known.{atom_known, fitting, known_by, composites, ClosedForm, Absorbs, Open, Inside, Parted}
 use Rattle.attacker.specs.Laws.{has}
 use Rattle.attacker.proofs.Absorbing.{no_variable}

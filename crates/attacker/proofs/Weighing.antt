@@ -1,11 +1,10 @@
 -- The room that kept texts take, as more locks open. Assumes nothing.
-use Rattle.std.proofs.Common.{◌≡◌, ℕ, suc, ◌+◌, ◌*◌, ◌<◌, ◌≤◌, Bool, true, false, cond, not, ◌&&◌, ◌||◌, eqb, List, [], ◌∷◌, ◌++◌, length, get_or, take, drop, Some, sym, refl, ap, ◌∙◌, subst, arith, eq-eqb, ne_eqb, eqb-true}
+use Rattle.std.proofs.Common.{◌≡◌, ℕ, ◌+◌, ◌<◌, ◌≤◌, Bool, true, false, cond, not, ◌&&◌, ◌||◌, eqb, List, [], ◌∷◌, ◌++◌, length, get_or, drop, sym, refl, ap, arith, eq-eqb, ne_eqb, eqb-true}
 use borrow.Author.Tests.{clash}
 use Rattle.std.proofs.lemmas.Bool.{and_parts, and_from}
-use Rattle.message.specs.Bytes.{is_atom, is_variable, is_locking, inverse_of}
-use Rattle.message.specs.Trees.{Tree, atom, variable, joined, locked, proper, write, size}
+use Rattle.message.specs.Bytes.{is_locking}
+use Rattle.message.specs.Trees.{Tree, atom, variable, joined, locked, proper, write}
 use Rattle.attacker.specs.declared.atoms.Atoms.{Atoms}
-use Rattle.attacker.specs.Atoms.{within}
 use Rattle.attacker.specs.Derivation.{opens, parts}
 use Rattle.attacker.specs.Known.{atom_known, composites, sign, signs, weight, weights, opens_now, ClosedForm, Inside}
 use Rattle.attacker.proofs.Absorbing.{atom_small, locking_small, no_variable, left_form, right_form, inner_form, composites_append}

@@ -1,5 +1,5 @@
 -- Which messages follow from a list of heard messages by the rules, and how that is decided.
-use Rattle.std.specs.Prelude.{◌≡◌, ℕ, zero, suc, ◌+◌, Bool, true, false, ◌&&◌, ◌||◌, List, [], ◌∷◌, ◌++◌, length, Some, None, Option, ◌==◌}
+use Rattle.std.specs.Prelude.{◌≡◌, ℕ, zero, suc, ◌+◌, Bool, true, false, ◌&&◌, ◌||◌, List, [], ◌∷◌, ◌++◌, length, Some, None, ◌==◌}
 use Rattle.message.specs.Bytes.{is_key, inverse_of}
 use Rattle.message.specs.Trees.{Tree, atom, variable, joined, locked, size, message_of}
 use Rattle.attacker.specs.Laws.{has}

@@ -1,6 +1,6 @@
 -- What the full attacker keeps of the messages that it has heard: the atoms that come out of them, and the texts of
 -- the joined and locked parts that do.
-use Rattle.std.specs.Prelude.{◌≡◌, ℕ, ◌+◌, Bool, true, false, cond, not, ◌&&◌, ◌||◌, List, [], ◌∷◌, ◌++◌, length, Some, ◌==◌, nat_le}
+use Rattle.std.specs.Prelude.{◌≡◌, ℕ, ◌+◌, Bool, true, false, cond, not, ◌&&◌, ◌||◌, List, [], ◌∷◌, ◌++◌, Some, ◌==◌, nat_le}
 use Rattle.message.specs.Bytes.{inverse_of}
 use Rattle.message.specs.Trees.{Tree, atom, variable, joined, locked, proper, write, size, closed, message_of, Fits}
 use Rattle.attacker.specs.declared.atoms.Atoms.{Atoms}

@@ -10,9 +10,9 @@ use message::stop::Stop;
 
 // Hears the messages in order; refused, and none is heard, where they would be more than 128 in all.
 pub fn hear_all<A: Attacker>(attacker: &mut A, messages: &[Message]) -> Result<(), Stop>
-    ensures answer { result ≡ all_answer (heard attacker.old) (texts messages.now) }
-    ensures list { heard attacker.new ≡ all_heard (heard attacker.old) (texts messages.now) }
-    ensures relation { makes attacker.new ≡ makes attacker.old }
+    ensures answer { result ≡ all_answer (A.heard attacker.old) (texts messages.now) }
+    ensures list { A.heard attacker.new ≡ all_heard (A.heard attacker.old) (texts messages.now) }
+    ensures relation { A.makes attacker.new ≡ A.makes attacker.old }
 {
     if messages.len() > 128 - attacker.count() {
         return Err(Stop::HeardEnough);
@@ -29,9 +29,9 @@ pub fn ask_after<A: Attacker>(
     messages: &[Message],
     question: &Message,
 ) -> Result<bool, Stop>
-    ensures answer { result ≡ would_make (makes attacker.old) (heard attacker.old) (texts messages.now) (message_text question.now) }
-    ensures list { heard attacker.new ≡ heard attacker.old }
-    ensures relation { makes attacker.new ≡ makes attacker.old }
+    ensures answer { result ≡ would_make (A.makes attacker.old) (A.heard attacker.old) (texts messages.now) (message_text question.now) }
+    ensures list { A.heard attacker.new ≡ A.heard attacker.old }
+    ensures relation { A.makes attacker.new ≡ A.makes attacker.old }
 {
     let count = attacker.count();
     hear_all(attacker, messages)?;

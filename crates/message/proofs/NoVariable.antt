@@ -1,5 +1,5 @@
 -- Bytes with no variable among them. Assumes nothing.
-use Rattle.std.proofs.Common.{◌≡◌, ℕ, Bool, true, false, ◌&&◌, List, [], ◌∷◌, ◌++◌, sym, refl, ap, ◌∙◌}
+use Rattle.std.proofs.Common.{◌≡◌, ℕ, Bool, true, false, List, [], ◌∷◌, ◌++◌, sym, refl, ap, ◌∙◌}
 use borrow.Author.Tests.{clash}
 use Rattle.message.specs.Bytes.{is_variable}
 use Rattle.message.specs.Trees.{closed}

@@ -1,12 +1,12 @@
 -- What the reader of forms answers, byte by byte. Assumes nothing.
-use Rattle.std.proofs.Common.{◌≡◌, ℕ, zero, suc, ◌+◌, ◌-◌, ◌<◌, ◌≤◌, Bool, true, false, List, [], ◌∷◌, length, get_or, take, drop, Some, None, Option, sym, refl, ap, ◌∙◌, subst, arith, length-drop}
+use Rattle.std.proofs.Common.{◌≡◌, ℕ, zero, suc, ◌+◌, ◌<◌, ◌≤◌, true, false, List, [], ◌∷◌, length, get_or, drop, Some, None, Option, sym, refl, ap, ◌∙◌, arith, length-drop}
 use Rattle.std.proofs.lemmas.List.{drop-drop}
 use Rattle.std.specs.Option.{option_map}
 use Rattle.message.specs.declared.kind.Kind.{Kind}
 use Rattle.message.specs.declared.kind.Symbol.{Symbol}
 use Rattle.message.specs.declared.kind.Symbol.TheVariants.{Atom, Variable, Join, Lock, Unused}
 use Rattle.message.specs.Bytes.{symbol, is_locking}
-use Rattle.message.specs.Trees.{Tree, atom, variable, joined, locked, size, reads, reads_by, reads_lock, and_then}
+use Rattle.message.specs.Trees.{Tree, joined, locked, size, reads, reads_by, and_then}
 
 -- r is the length of the form at the front of bs, whatever depth of reading is enough
 abbrev pub Says : List ℕ → Option ℕ → Type 0

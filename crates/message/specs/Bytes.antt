@@ -1,5 +1,5 @@
 -- What each byte stands for: atoms of five kinds, the variables of each kind, the two signs that build forms.
-use Rattle.std.specs.Prelude.{ℕ, ◌+◌, ◌-◌, ◌%◌, Bool, true, false, cond, ◌&&◌, ◌||◌, Some, None, Option, ◌==◌, nat_lt}
+use Rattle.std.specs.Prelude.{ℕ, ◌+◌, ◌-◌, ◌%◌, Bool, true, false, cond, Some, None, Option, ◌==◌, nat_lt}
 use Rattle.message.specs.declared.kind.Kind.{Kind}
 use Rattle.message.specs.declared.kind.Kind.TheVariants.{Name, Nonce, Data, SharedKey, PairKey}
 use Rattle.message.specs.declared.kind.Symbol.{Symbol}

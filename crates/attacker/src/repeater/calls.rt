@@ -1,7 +1,7 @@
 ghost use Rattle.std.specs.Prelude.{◌≡◌, [], IfOk};
 ghost use Rattle.attacker.specs.Laws.{has};
 ghost use Rattle.attacker.specs.Texts.{texts};
-ghost use Rattle.std.proofs.Common.{rules, arith};
+ghost use Rattle.std.proofs.Common.{rules};
 
 use crate::Attacker;
 use crate::among::stands_among;
@@ -25,9 +25,9 @@ impl Attacker for Repeater {
 
     ghost makes = { λ _ list m. has list m };
 
-    ghost monotone = { first_of (Prim.search rules, Prim.grind (arith, Self.row.coded.inj)) };
+    ghost monotone = { Prim.search rules };
 
-    ghost own = { first_of (Prim.search rules, Prim.grind (arith, Self.row.coded.inj)) };
+    ghost own = { Prim.search rules };
 
     fn count(&self) -> usize {
         self.messages.len()

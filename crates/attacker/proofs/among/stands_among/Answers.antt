@@ -1,4 +1,4 @@
-use Rattle.std.proofs.Common.{◌≡◌, ℕ, ◌+◌, ◌<◌, Bool, true, false, ◌||◌, List, ◌∷◌, length, get_or, drop, sym, refl, ap, ◌∙◌}
+use Rattle.std.proofs.Common.{◌≡◌, ℕ, ◌+◌, ◌<◌, Bool, true, false, ◌||◌, List, length, get_or, drop, sym, ap, ◌∙◌}
 use Rattle.std.specs.Str.{bytes_eq}
 use Rattle.std.proofs.lemmas.List.{at_drop_more, at_drop_all}
 use Rattle.message.specs.declared.closed.Message.{Message}
@@ -15,18 +15,18 @@ one_more ms bytes i m r h is told =
     ∙ ap (λ x. bytes_eq (message_text x) bytes || has (texts (drop (i + 1) ms)) bytes) (sym is)
     ∙ ap (λ x. x || has (texts (drop (i + 1) ms)) bytes) (sym told)
 
-pub returns-then-same-bytes : goal.returns-then-same-bytes
-returns-then-same-bytes c =
+pub returns-then-same_bytes : goal.returns-then-same_bytes
+returns-then-same_bytes c =
     let ms = c.args.messages.now in
     let bytes = c.args.bytes.now in
-    let told : true ≡ bytes_eq (message_text c.message-item.result) bytes = c.if-same-bytes.ensures.value ∙ ap (λ l. bytes_eq l bytes) c.bytes.ensures.value in
+    let told : true ≡ bytes_eq (message_text c.message-item.result) bytes = c.if-same_bytes.ensures.value ∙ ap (λ l. bytes_eq l bytes) c.bytes.ensures.value in
     record { value = sym (one_more ms bytes c.loop-message.message-index c.message-item.result true c.loop-message-test.true c.message-item.is told) ∙ c.loop-message.invariant }
 
 pub loop-message-preserved : goal.loop-message-preserved
 loop-message-preserved c =
     let ms = c.args.messages.now in
     let bytes = c.args.bytes.now in
-    let told : false ≡ bytes_eq (message_text c.message-item.result) bytes = c.if-same-bytes.ensures.value ∙ ap (λ l. bytes_eq l bytes) c.bytes.ensures.value in
+    let told : false ≡ bytes_eq (message_text c.message-item.result) bytes = c.if-same_bytes.ensures.value ∙ ap (λ l. bytes_eq l bytes) c.bytes.ensures.value in
     sym (one_more ms bytes c.loop-message.message-index c.message-item.result false c.loop-message-test.true c.message-item.is told) ∙ c.loop-message.invariant
 
 pub returns : goal.returns

@@ -1,11 +1,10 @@
-use Rattle.std.proofs.Common.{◌≡◌, ℕ, ◌+◌, ◌<◌, ◌≤◌, Bool, true, false, cond, leb, List, [], ◌++◌, length, take, Ok, Err, Result, sym, refl, ap, ◌∙◌, arith}
+use Rattle.std.proofs.Common.{◌≡◌, ℕ, Bool, true, false, cond, List, ◌++◌, length, take, Ok, Err, Result, sym, refl, ap, ◌∙◌, arith}
 use Rattle.std.proofs.lemmas.List.{take_at}
 use Rattle.message.specs.declared.stop.Stop.{Stop}
 use Rattle.message.specs.declared.stop.Stop.TheVariants.{HeardEnough}
 use Rattle.message.specs.Messages.{message_text}
-use Rattle.message.specs.Trees.{is_message}
 use Rattle.attacker.specs.Calls.{ask_answer}
-use Rattle.attacker.specs.Listening.{fits, all_answer, all_heard, would_make}
+use Rattle.attacker.specs.Listening.{fits, all_answer}
 use Rattle.attacker.specs.Texts.{texts}
 use Rattle.attacker.proofs.Answering.{ask_answered}
 use Rattle.attacker.proofs.Learning.{message_is}
@@ -25,11 +24,11 @@ returns g c =
     let more = texts c.args.messages.now in
     let question = c.args.question.now in
     let makes = g.A.Attacker.makes c.args.attacker.now in
-    let fit = they_fit list more c.in-ok-hear-all.field-0 (sym c.hear-all.ensures.answer ∙ c.in-ok-hear-all.was) in
-    let all : g.A.Attacker.heard c.hear-all.new.attacker ≡ list ++ more = c.hear-all.ensures.list ∙ ap (λ b. cond b (list ++ more) list) fit in
-    let asked : c.ask-answer.result ≡ ask_answer makes (list ++ more) (message_text question) = c.ask-answer.ensures.answer ∙ (λ i. ask_answer (c.hear-all.ensures.relation i) (all i) (c.bytes.ensures.value i)) in
+    let fit = they_fit list more c.in_ok-hear_all.field-0 (sym c.hear_all.ensures.answer ∙ c.in_ok-hear_all.was) in
+    let all : g.A.Attacker.heard c.hear_all.new.attacker ≡ list ++ more = c.hear_all.ensures.list ∙ ap (λ b. cond b (list ++ more) list) fit in
+    let asked : c.ask-answer.result ≡ ask_answer makes (list ++ more) (message_text question) = c.ask-answer.ensures.answer ∙ (λ i. ask_answer (c.hear_all.ensures.relation i) (all i) (c.bytes.ensures.value i)) in
     record {
       answer = asked ∙ sym (ask_answered (list ++ more) (message_text question) makes (makes (list ++ more) (message_text question)) (message_is question) refl) ∙ ap (λ b. cond b (Ok (makes (list ++ more) (message_text question))) (Err HeardEnough)) (sym fit);
-      list = c.fall-back.ensures.list ∙ (λ i. take (c.count-count.ensures.value i) (all i)) ∙ take_at list more (length list) refl;
-      relation = c.fall-back.ensures.relation ∙ c.hear-all.ensures.relation;
+      list = c.fall_back.ensures.list ∙ (λ i. take (c.count-count.ensures.value i) (all i)) ∙ take_at list more (length list) refl;
+      relation = c.fall_back.ensures.relation ∙ c.hear_all.ensures.relation;
     }

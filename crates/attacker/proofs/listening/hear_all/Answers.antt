@@ -1,4 +1,4 @@
-use Rattle.std.proofs.Common.{◌≡◌, ℕ, ◌+◌, ◌<◌, ◌≤◌, true, false, cond, leb, List, [], ◌∷◌, ◌++◌, map, length, get_or, take, drop, Ok, Err, Result, sym, refl, ap, ◌∙◌, subst, append_assoc, arith, le-leb}
+use Rattle.std.proofs.Common.{◌≡◌, ℕ, ◌+◌, ◌<◌, ◌≤◌, true, cond, List, [], ◌∷◌, ◌++◌, length, get_or, take, Ok, Err, sym, refl, ap, ◌∙◌, append_assoc, arith, le-leb}
 use borrow.Author.Tests.{lt-leb}
 use Rattle.std.proofs.lemmas.List.{length-map, length-append, length-take-le, map_more, take_all}
 use Rattle.message.specs.declared.closed.Message.{Message}
@@ -9,7 +9,6 @@ use Rattle.attacker.specs.Calls.{hear_answer, heard_after}
 use Rattle.attacker.specs.Texts.{texts}
 use Rattle.attacker.proofs.Answering.{hear_taken, list_taken}
 use Rattle.attacker.proofs.Learning.{message_is}
-use Rattle.attacker.proofs.listening.hear_all.Given as given
 use Rattle.attacker.proofs.listening.hear_all.Goals as goal
 
 pub returns-then-messages-count : goal.returns-then-messages-count
@@ -42,13 +41,13 @@ module _ (list now-heard : List (List ℕ)) (ms : List Message) (i : ℕ) (m : M
       ∙ append_assoc list (texts (take i ms)) (message_text (get_or ms i m) ∷ [])
       ∙ ap (λ l. list ++ l) (sym (map_more message_text ms i m inside))
 
-pub returns-in-err-hear : goal.returns-in-err-hear
-returns-in-err-hear g c =
+pub returns-in_err-hear : goal.returns-in_err-hear
+returns-in_err-hear g c =
     let list = g.A.Attacker.heard c.args.attacker.now in
     let ms = c.args.messages.now in
     let fit : length list + length ms ≤ 128 = omega (arith, c.count.ensures.value, c.count.ensures.few) in
     let taken = next_taken list (g.A.Attacker.heard c.loop-message.attacker) ms c.loop-message.message-index c.message-item.result c.bytes.result.now fit c.loop-message-test.true c.loop-message.invariant.0 c.message-item.is c.bytes.ensures.value in
-    let both : Ok tt ≡ Err c.in-err-hear.field-0.0 = taken ∙ sym c.hear.ensures.answer ∙ c.in-err-hear.was in
+    let both : Ok tt ≡ Err c.in_err-hear.field-0.0 = taken ∙ sym c.hear.ensures.answer ∙ c.in_err-hear.was in
     let z : ◌≡◌ {A = ℕ} 0 1 = cc in
     absurd (omega arith)
 

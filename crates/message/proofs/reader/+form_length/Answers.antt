@@ -1,4 +1,4 @@
-use Rattle.std.proofs.Common.{◌≡◌, ℕ, ◌+◌, ◌<◌, ◌≤◌, length, get_or, take, drop, IfSome, Some, None, sym, ap, ◌∙◌, subst, ⊎_elim, arith, length-drop, length-take}
+use Rattle.std.proofs.Common.{◌+◌, ◌<◌, ◌≤◌, length, IfSome, Some, None, sym, ap, ◌∙◌, subst, ⊎_elim, arith, length-drop}
 use Rattle.std.proofs.lemmas.List.{take_rest}
 use Rattle.message.proofs.Reading.{Says, says_empty, says_atom, says_variable, says_unused, join_no_left, join_both, lock_alone, lock_refused, lock_inside}
 use Rattle.message.proofs.reader.+form_length.Goals as goal

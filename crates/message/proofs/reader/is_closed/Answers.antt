@@ -1,6 +1,5 @@
-use Rattle.std.proofs.Common.{◌≡◌, ◌+◌, Bool, true, false, [], ◌∷◌, get_or, drop, sym, ap, ◌∙◌}
+use Rattle.std.proofs.Common.{◌+◌, get_or, drop, sym, ◌∙◌}
 use Rattle.std.proofs.lemmas.List.{at_drop_more, at_drop_all}
-use Rattle.message.specs.Bytes.{is_variable}
 use Rattle.message.specs.Trees.{closed}
 use Rattle.message.proofs.NoVariable.{closed_on, closed_stops}
 use Rattle.message.proofs.reader.is_closed.Goals as goal

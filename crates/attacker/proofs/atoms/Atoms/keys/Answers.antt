@@ -1,4 +1,4 @@
-use Rattle.std.proofs.Common.{◌≡◌, ◌/◌, ◌^◌}
+use Rattle.std.proofs.Common.{◌/◌, ◌^◌}
 use Rattle.std.proofs.lemmas.Nat.{and_mask}
 use Rattle.attacker.specs.Atoms.{key_bits}
 use Rattle.attacker.proofs.atoms.Atoms.keys.Goals as goal

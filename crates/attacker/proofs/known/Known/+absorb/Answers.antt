@@ -1,4 +1,4 @@
-use Rattle.std.proofs.Common.{◌≡◌, ℕ, ◌+◌, ◌-◌, ◌<◌, ◌≤◌, false, List, length, get_or, take, drop, Some, None, vec_items, vec_len, sym, refl, ap, ◌∙◌, subst, arith, length-drop, length-take}
+use Rattle.std.proofs.Common.{◌≡◌, ℕ, ◌+◌, ◌-◌, ◌<◌, ◌≤◌, false, List, length, get_or, take, drop, Some, None, vec_items, sym, ap, ◌∙◌, subst, arith, length-drop, length-take}
 use Rattle.std.proofs.lemmas.List.{take_rest, drop-drop}
 use Rattle.message.specs.declared.kind.Symbol.TheVariants.{Join, Lock}
 use Rattle.message.specs.Bytes.{symbol, stands_for_atom}
@@ -9,7 +9,7 @@ use Rattle.attacker.specs.Texts.{texts}
 use Rattle.attacker.proofs.Absorbing.{absorb_nothing, absorb_atom, absorb_other, absorb_joined, absorb_unread, absorb_opened, absorb_shut, left_cut, other_byte}
 use Rattle.attacker.proofs.Signs.{signs_cut, signs_drop, signs_join, signs_lock}
 use Rattle.attacker.proofs.known.Known.+absorb.Goals as goal
-use Rattle.attacker.proofs.known.Known.+absorb.Goals.{else-part-gt1-via-then-part-gt1+else-opens-lock, else-part-gt1-via-else-part-gt1}
+use Rattle.attacker.proofs.known.Known.+absorb.Goals.{else-part-gt1-via-then-part-gt1+else-opens_lock, else-part-gt1-via-else-part-gt1}
 
 pub returns-then-part-lt1 : goal.returns-then-part-lt1
 returns-then-part-lt1 t c =
@@ -44,8 +44,8 @@ absorb-requires-in-Some t c =
     let cut = halves bs l (omega arith) (sym c.in-Join.ensures.value) in
     (omega (arith, ap length (take_rest bs (1 + l)), length-drop (1 + l) bs), omega (arith, cut, c.requires.room, c.keep.ensures.few, c.absorb.ensures.few))
 
-pub absorb-requires-then-opens-lock : goal.absorb-requires-then-opens-lock
-absorb-requires-then-opens-lock t c =
+pub absorb-requires-then-opens_lock : goal.absorb-requires-then-opens_lock
+absorb-requires-then-opens_lock t c =
     let bs = c.args.part.now in
     let cut = inside bs (omega arith) (sym c.in-Lock.ensures.value) in
     (omega (arith, ap length (take_rest bs 2), length-drop 2 bs), omega (arith, cut, c.requires.room, c.keep-in-Lock.ensures.few))
@@ -82,30 +82,30 @@ returns-in-Some t c =
       grows = omega (arith, ap (λ a. a.bits) same, first.grows, second.grows);
     }
 
-pub returns-in-default : goal.returns-in-default
-returns-in-default t c =
+pub returns-in_default : goal.returns-in_default
+returns-in_default t c =
     let self = c.args.self.now in
     let bs = c.args.part.now in
     let at = sym c.in-Join.ensures.value in
     record {
       absorbs = absorb_unread c.args.opened bs (texts (vec_items self.parts)) (texts (vec_items c.keep.new.self.parts)) self.atoms c.keep.ensures.kept at
-          (subst (λ l. Says l None) (take_rest bs 1) c.in-default.ensures.reads) (texts (vec_items c.keep.new.self.parts)) c.keep.new.self.atoms;
+          (subst (λ l. Says l None) (take_rest bs 1) c.in_default.ensures.reads) (texts (vec_items c.keep.new.self.parts)) c.keep.new.self.atoms;
       few = omega (arith, signs_join bs (omega arith) at, c.keep.ensures.few);
       grows = omega (arith, ap (λ a. a.bits) c.keep.ensures.atoms);
     }
 
-pub returns-then-opens-lock : goal.returns-then-opens-lock
-returns-then-opens-lock t c =
+pub returns-then-opens_lock : goal.returns-then-opens_lock
+returns-then-opens_lock t c =
     let self = c.args.self.now in
     let bs = c.args.part.now in
     let at = sym c.in-Lock.ensures.value in
-    let body = c.absorb-then-opens-lock.ensures in
+    let body = c.absorb-then-opens_lock.ensures in
     let kept₁ = texts (vec_items c.keep-in-Lock.new.self.parts) in
-    let kept₂ = texts (vec_items c.absorb-then-opens-lock.new.self.parts) in
+    let kept₂ = texts (vec_items c.absorb-then-opens_lock.new.self.parts) in
     let same = c.keep-in-Lock.ensures.atoms in
     record {
-      absorbs = absorb_opened c.args.opened bs (texts (vec_items self.parts)) kept₁ self.atoms c.keep-in-Lock.ensures.kept at (sym c.if-opens-lock.ensures.value) kept₂ c.absorb-then-opens-lock.new.self.atoms
-          (subst (λ l. Absorbs c.args.opened l kept₁ kept₂ self.atoms c.absorb-then-opens-lock.new.self.atoms) (take_rest bs 2) (subst (λ a. Absorbs c.args.opened (take (length bs - 2) (drop 2 bs)) kept₁ kept₂ a c.absorb-then-opens-lock.new.self.atoms) same body.absorbs));
+      absorbs = absorb_opened c.args.opened bs (texts (vec_items self.parts)) kept₁ self.atoms c.keep-in-Lock.ensures.kept at (sym c.if-opens_lock.ensures.value) kept₂ c.absorb-then-opens_lock.new.self.atoms
+          (subst (λ l. Absorbs c.args.opened l kept₁ kept₂ self.atoms c.absorb-then-opens_lock.new.self.atoms) (take_rest bs 2) (subst (λ a. Absorbs c.args.opened (take (length bs - 2) (drop 2 bs)) kept₁ kept₂ a c.absorb-then-opens_lock.new.self.atoms) same body.absorbs));
       few = omega (arith, inside bs (omega arith) at, c.keep-in-Lock.ensures.few, body.few);
       grows = omega (arith, ap (λ a. a.bits) same, body.grows);
     }
@@ -120,7 +120,7 @@ returns-else-part-gt1 t c =
     let same = c.keep-in-Lock.ensures.atoms in
     let shut : 1 < length bs → opens (atom_known c.args.opened) (get_or bs 1 0) ≡ false =
     λ long. elim c.else-part-gt1.branch [
-      | else-part-gt1-via-then-part-gt1+else-opens-lock w ↦ sym w.opens-lock.ensures.value ∙ w.if-opens-lock.false
+      | else-part-gt1-via-then-part-gt1+else-opens_lock w ↦ sym w.opens_lock.ensures.value ∙ w.if-opens_lock.false
       | else-part-gt1-via-else-part-gt1 w ↦ absurd (omega (arith, w.if-part-gt1.false))
     ]
     in
@@ -135,5 +135,5 @@ returns-in-Variable t c =
     let self = c.args.self.now in
     let bs = c.args.part.now in
     let kept = texts (vec_items self.parts) in
-    let at = subst (λ s. (stands_for_atom s ≡ false) × (s ≡ Join → ⊥) × (s ≡ Lock → ⊥)) c.symbol-of.ensures.value (other_byte c.symbol-of.result c.in-Variable.is) in
+    let at = subst (λ s. (stands_for_atom s ≡ false) × (s ≡ Join → ⊥) × (s ≡ Lock → ⊥)) c.symbol_of.ensures.value (other_byte c.symbol_of.result c.in-Variable.is) in
     record { absorbs = absorb_other c.args.opened bs kept self.atoms kept self.atoms at.0 at.1 at.2; few = omega arith; grows = omega arith }

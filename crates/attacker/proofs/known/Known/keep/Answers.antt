@@ -7,7 +7,7 @@ pub returns-in-Some : goal.returns-in-Some
 returns-in-Some c =
     let items = vec_items c.args.self.now.parts in
     record {
-      kept = λ _. ap (map message_text) c.push-reserved.ensures.items ∙ map_push message_text items c.in-Some.message ∙ ap (λ l. map message_text items ++ l ∷ []) c.in-Some.ensures.value.1;
+      kept = λ _. ap (map message_text) c.push_reserved.ensures.items ∙ map_push message_text items c.in-Some.message ∙ ap (λ l. map message_text items ++ l ∷ []) c.in-Some.ensures.value.1;
       few = omega arith;
       atoms = refl;
     }

@@ -1,9 +1,9 @@
-use Rattle.std.proofs.Common.{◌≡◌, ℕ, ◌+◌, ◌<◌, ◌≤◌, List, [], ◌∷◌, ◌++◌, length, vec_items, vec_len, sym, refl, ap, ◌∙◌, subst, append_assoc, arith}
+use Rattle.std.proofs.Common.{◌≡◌, ◌+◌, [], ◌∷◌, ◌++◌, vec_items, sym, refl, ap, ◌∙◌, subst, append_assoc, arith}
 use Rattle.std.proofs.lemmas.List.{length-map}
 use Rattle.message.specs.Messages.{message_text}
 use Rattle.message.specs.Trees.{atom, write}
 use Rattle.attacker.specs.Derivation.{Knowledge}
-use Rattle.attacker.specs.Known.{known_by, signs, weights, Absorbs, Inside}
+use Rattle.attacker.specs.Known.{known_by, signs, weights, Absorbs}
 use Rattle.attacker.specs.Texts.{texts}
 use Rattle.attacker.specs.Atoms.{key_bits}
 use Rattle.attacker.proofs.Keys.{same_opener, same_weights}
@@ -27,8 +27,8 @@ loop-opened-init c =
     let took = subst (λ l. Absorbs self.atoms l kept kept' self.atoms atoms') (c.bytes.ensures.value ∙ sym tree.2) c.absorb.ensures.absorbs in
     (c.absorb.ensures.grows, opening_starts self.atoms kept' atoms' (λ b h. known_still self.atoms tree.0 tree.1 kept kept' self.atoms atoms' took (atom b) h))
 
-pub open-locks-requires : goal.open-locks-requires
-open-locks-requires c =
+pub open_locks-requires : goal.open_locks-requires
+open_locks-requires c =
     let self = c.args.self.now in
     let tree = message_tree c.args.message.now in
     let kept = texts (vec_items self.parts) in
@@ -46,15 +46,15 @@ loop-opened-smaller c =
     let n = c.loop-opened.self.atoms.bits in
     let told : key_bits c.loop-opened.opened ≡ key_bits c.loop-opened.self.atoms → ⊥ = λ same. c.loop-opened-test.true (c.keys.ensures.value ∙ same ∙ sym c.keys-in-loop-opened.ensures.value) in
     let apart : m ≡ n → ⊥ = λ same. told (ap key_bits (same_atoms c.loop-opened.opened c.loop-opened.self.atoms same)) in
-    omega (arith, c.open-locks.ensures.fits)
+    omega (arith, c.open_locks.ensures.fits)
 
 pub loop-opened-preserved : goal.loop-opened-preserved
 loop-opened-preserved c =
     let self = c.args.self.now in
-    let told = c.open-locks.ensures in (
+    let told = c.open_locks.ensures in (
       told.grows,
       opening_on self.atoms (texts (vec_items c.absorb.new.self.parts)) c.absorb.new.self.atoms c.loop-opened.opened (texts (vec_items c.loop-opened.self.parts)) c.loop-opened.self.atoms
-          (texts (vec_items c.open-locks.new.self.parts)) c.open-locks.new.self.atoms c.loop-opened.invariant.1 told.opens told.room told.keeps,
+          (texts (vec_items c.open_locks.new.self.parts)) c.open_locks.new.self.atoms c.loop-opened.invariant.1 told.opens told.room told.keeps,
     )
 
 pub returns : goal.returns

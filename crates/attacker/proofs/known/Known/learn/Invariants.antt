@@ -1,5 +1,4 @@
-use Rattle.std.proofs.Common.{◌≡◌, ℕ, ◌-◌, ◌^◌, ◌≤◌, List, ◌++◌, vec_items}
-use Rattle.attacker.specs.Known.{known_by, weights, Open, Inside, Parted}
+use Rattle.std.proofs.Common.{◌-◌, ◌^◌, ◌≤◌, vec_items}
 use Rattle.attacker.specs.Texts.{texts}
 use Rattle.attacker.proofs.Learning.{Opening}
 use Rattle.attacker.proofs.known.Known.learn.Given as goal

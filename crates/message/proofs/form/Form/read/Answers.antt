@@ -1,4 +1,4 @@
-use Rattle.std.proofs.Common.{◌≡◌, ℕ, ◌≤◌, true, List, length, take, drop, replicate, Some, None, sym, refl, ap, ◌∙◌, subst, arith}
+use Rattle.std.proofs.Common.{◌≡◌, ℕ, ◌≤◌, true, List, length, take, drop, Some, None, refl, ap, ◌∙◌, subst, arith}
 use Rattle.message.specs.Trees.{is_form}
 use Rattle.message.proofs.Padding.{pad_length, pad_front, pad_back}
 use Rattle.message.proofs.Reading.{Says}

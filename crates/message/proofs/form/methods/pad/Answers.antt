@@ -1,4 +1,4 @@
-use Rattle.std.proofs.Common.{◌≡◌, ◌-◌, ◌++◌, length, get_or, take, set, replicate, sym, ap, ◌∙◌, arith, take_all}
+use Rattle.std.proofs.Common.{◌≡◌, ◌-◌, ◌++◌, length, get_or, take, set, replicate, ap, ◌∙◌, arith, take_all}
 use Rattle.message.proofs.Padding.{pad_more}
 use Rattle.message.proofs.form.methods.pad.Goals as goal
 

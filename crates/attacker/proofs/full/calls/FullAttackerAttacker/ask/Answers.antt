@@ -1,4 +1,4 @@
-use Rattle.std.proofs.Common.{◌≡◌, ◌<◌, Bool, true, false, length, get_or, Ok, vec_items, vec_len, sym, refl, ap, ◌∙◌, subst, arith}
+use Rattle.std.proofs.Common.{◌≡◌, ◌<◌, true, false, length, get_or, Ok, vec_items, vec_len, sym, ap, ◌∙◌, arith}
 use mathlib.Core.Bool.{Bool-set}
 use mathlib.Core.Logic.{∥∥₁_elim}
 use Rattle.std.proofs.lemmas.List.{length-map}
@@ -25,13 +25,13 @@ returns c =
     let there : count < length marks = omega (arith, self.each, self.marks.ok.0) in
     let all : length heard ≡ count = length-map (vec_items self.messages) message_text ∙ sym self.messages.ok.0 in
     let full : (get_or marks count no_mark).parts ≡ length kept = self.parts ∙ self.known.parts.ok.0 ∙ sym (length-map (vec_items self.known.parts) message_text) in
-    let closed-form : is_message m ≡ true = read_some (is_message m ≡ false) (λ r. message_text r ≡ m) c.read.result c.if-is-none.ensures c.read.ensures.value in
+    let closed-form : is_message m ≡ true = read_some (is_message m ≡ false) (λ r. message_text r ≡ m) c.read.result c.if-is_none.ensures c.read.ensures.value in
     let tree = message_read m closed-form in
-    let right : c.can-build.result ≡ derives heard m =
-    ∥∥₁_elim self.knows (Bool-set c.can-build.result (derives heard m)) (λ known.
-    c.can-build.ensures.builds tree.0 tree.1 tree.2 ∙ same_decision heard m tree.0 tree.3 _ (now_known heard kept marks count self.known.atoms all there (same_atoms (get_or marks count no_mark).atoms self.known.atoms self.atoms) full known)) in
+    let right : c.can_build.result ≡ derives heard m =
+    ∥∥₁_elim self.knows (Bool-set c.can_build.result (derives heard m)) (λ known.
+    c.can_build.ensures.builds tree.0 tree.1 tree.2 ∙ same_decision heard m tree.0 tree.3 _ (now_known heard kept marks count self.known.atoms all there (same_atoms (get_or marks count no_mark).atoms self.known.atoms self.atoms) full known)) in
     record {
-      answer = ask_answered heard m derives c.can-build.result closed-form right;
+      answer = ask_answered heard m derives c.can_build.result closed-form right;
       derived = λ e. (decides_right heard m).0 (sym right ∙ (cc));
       complete = λ can. ap Ok (right ∙ (decides_right heard m).1 can);
     }

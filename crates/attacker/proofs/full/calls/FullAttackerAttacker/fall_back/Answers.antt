@@ -19,8 +19,8 @@ index-mark-requires c =
     let self = c.args.self.now in
     omega (arith, self.each, c.count.ensures.value, length-map (vec_items self.messages) message_text, self.messages.ok.0)
 
-pub invariant-of-self-3 : goal.invariant-of-self-3
-invariant-of-self-3 c =
+pub invariant_of-self-3 : goal.invariant_of-self-3
+invariant_of-self-3 c =
     let self = c.args.self.now in
     let n = c.args.n in
     let marks = vec_items self.marks in
@@ -39,26 +39,19 @@ invariant-of-self-3 c =
     let last : get_or (vec_items c.truncate-3.new.self) (vec_len c.truncate.new.self) no_mark ≡ mark =
     (λ i. get_or (sym marks' i) (count i) no_mark) ∙ last_back heard kept marks n there self.rising ∙ sym is in
     let kept-all : mark.parts ≡ vec_len c.truncate-2.new.self =
-    omega (arith, ap (λ m. m.parts) is, self.rising n (vec_len self.messages) (omega arith) (omega (arith, self.each, self.marks.ok.0)), self.parts, c.truncate-2.ensures.len) in (
-      omega (arith, self.room, c.truncate.ensures.capacity),
-      (
-        omega arith,
-        (
-          omega (arith, self.spare, c.truncate-3.ensures.capacity),
-          (
-            omega (arith, self.each, c.truncate-3.ensures.len),
-            (
-              ∥∥₁_map self.knows (λ known. subst (λ m. AllKnown (texts (vec_items c.truncate.new.self)) (texts (vec_items c.truncate-2.new.self)) m) marks'
-                  (subst (λ k. AllKnown (texts (vec_items c.truncate.new.self)) k (take (n + 1) marks)) kept' (subst (λ l. AllKnown l (take (get_or marks n no_mark).parts kept) (take (n + 1) marks)) heard' (known_back heard kept marks n there self.rising known)))),
-              (
-                subst (λ m. Roomy (texts (vec_items c.truncate-2.new.self)) m) marks' (subst (λ k. Roomy k (take (n + 1) marks)) kept' (roomy_back heard kept marks n there self.rising self.roomy)),
-                (subst Rising marks' (rising_back heard kept marks n there self.rising), (ap (λ m. m.atoms.bits) last, (ap (λ m. m.parts) last ∙ kept-all, tt))),
-              ),
-            ),
-          ),
-        ),
-      ),
-    )
+    omega (arith, ap (λ m. m.parts) is, self.rising n (vec_len self.messages) (omega arith) (omega (arith, self.each, self.marks.ok.0)), self.parts, c.truncate-2.ensures.len) in
+    record {
+      room = omega (arith, self.room, c.truncate.ensures.capacity);
+      few = omega arith;
+      spare = omega (arith, self.spare, c.truncate-3.ensures.capacity);
+      each = omega (arith, self.each, c.truncate-3.ensures.len);
+      knows = ∥∥₁_map self.knows (λ known. subst (λ m. AllKnown (texts (vec_items c.truncate.new.self)) (texts (vec_items c.truncate-2.new.self)) m) marks'
+          (subst (λ k. AllKnown (texts (vec_items c.truncate.new.self)) k (take (n + 1) marks)) kept' (subst (λ l. AllKnown l (take (get_or marks n no_mark).parts kept) (take (n + 1) marks)) heard' (known_back heard kept marks n there self.rising known))));
+      roomy = subst (λ m. Roomy (texts (vec_items c.truncate-2.new.self)) m) marks' (subst (λ k. Roomy k (take (n + 1) marks)) kept' (roomy_back heard kept marks n there self.rising self.roomy));
+      rising = subst Rising marks' (rising_back heard kept marks n there self.rising);
+      atoms = ap (λ m. m.atoms.bits) last;
+      parts = ap (λ m. m.parts) last ∙ kept-all;
+    }
 
 pub returns : goal.returns
 returns c =

@@ -1,4 +1,4 @@
-use Rattle.std.proofs.Common.{◌≡◌, ◌+◌, ◌*◌, ◌<◌, ◌≤◌, [], ◌∷◌, ◌++◌, map, length, get_or, vec_items, vec_len, sym, refl, ap, ◌∙◌, subst, arith}
+use Rattle.std.proofs.Common.{◌≡◌, ◌+◌, ◌*◌, ◌<◌, ◌≤◌, [], ◌∷◌, ◌++◌, length, get_or, vec_items, vec_len, sym, refl, ap, ◌∙◌, subst, arith}
 use mathlib.Core.Logic.{∥∥₁_map}
 use Rattle.std.proofs.lemmas.List.{length-map, length-append, map_push}
 use Rattle.message.specs.Messages.{message_text}
@@ -30,18 +30,18 @@ learn-requires c =
     let full : (get_or marks count no_mark).parts ≡ length kept = self.parts ∙ self.known.parts.ok.0 ∙ sym (length-map (vec_items self.known.parts) message_text) in
     record { room = omega (arith, c.count.ensures.value, length-map (vec_items self.messages) message_text, self.messages.ok.0, now_roomy kept marks count self.known.atoms there (same_atoms (get_or marks count no_mark).atoms self.known.atoms self.atoms) full self.roomy, few_signs tree.0 tree.1, ap signs tree.2) }
 
-pub push-reserved-requires : goal.push-reserved-requires
-push-reserved-requires c =
+pub push_reserved-requires : goal.push_reserved-requires
+push_reserved-requires c =
     let self = c.args.self.now in
     omega (arith, self.room, c.count.ensures.value, length-map (vec_items self.messages) message_text, self.messages.ok.0)
 
-pub push-reserved-requires-2 : goal.push-reserved-requires-2
-push-reserved-requires-2 c =
+pub push_reserved-requires-2 : goal.push_reserved-requires-2
+push_reserved-requires-2 c =
     let self = c.args.self.now in
     omega (arith, self.spare, self.each, c.count.ensures.value, length-map (vec_items self.messages) message_text, self.messages.ok.0)
 
-pub invariant-of-self-2 : goal.invariant-of-self-2
-invariant-of-self-2 c =
+pub invariant_of-self-2 : goal.invariant_of-self-2
+invariant_of-self-2 c =
     let self = c.args.self.now in
     let message = c.in-Some.message in
     let m = message_text message in
@@ -58,41 +58,31 @@ invariant-of-self-2 c =
     let all : length heard ≡ count = length-map (vec_items self.messages) message_text ∙ sym self.messages.ok.0 in
     let full : (get_or marks count no_mark).parts ≡ length kept = self.parts ∙ self.known.parts.ok.0 ∙ sym (length-map (vec_items self.known.parts) message_text) in
     let atoms-now = same_atoms (get_or marks count no_mark).atoms self.known.atoms self.atoms in
-    let heard' : heard ++ m ∷ [] ≡ texts (vec_items c.push-reserved.new.self) = sym (ap texts c.push-reserved.ensures.items ∙ map_push message_text (vec_items self.messages) message) in
+    let heard' : heard ++ m ∷ [] ≡ texts (vec_items c.push_reserved.new.self) = sym (ap texts c.push_reserved.ensures.items ∙ map_push message_text (vec_items self.messages) message) in
     let kept' : kept ++ fresh ≡ texts (vec_items learnt.parts) = sym c.learn.ensures.keeps.1 in
-    let marks' : marks ++ mark ∷ [] ≡ vec_items c.push-reserved-2.new.self = sym c.push-reserved-2.ensures.items in
+    let marks' : marks ++ mark ∷ [] ≡ vec_items c.push_reserved-2.new.self = sym c.push_reserved-2.ensures.items in
     let whole : mark.parts ≡ length (kept ++ fresh) = c.len.ensures ∙ learnt.parts.ok.0 ∙ sym (length-map (vec_items learnt.parts) message_text) ∙ ap length (sym kept') in
     let room : weights mark.atoms (kept ++ fresh) ≤ 11 * (count + 1) =
     omega (arith, ap (weights mark.atoms) kept', c.learn.ensures.room, now_roomy kept marks count self.known.atoms there atoms-now full self.roomy, few_signs tree.0 tree.1, ap signs tree.2) in
-    let one_more : vec_len c.push-reserved.new.self ≡ count + 1 = c.push-reserved.ensures.len in
-    let last : get_or (vec_items c.push-reserved-2.new.self) (vec_len c.push-reserved.new.self) no_mark ≡ mark =
-    (λ i. get_or (sym marks' i) (one_more i) no_mark) ∙ last_more heard kept fresh m marks mark count many all self.rising full whole in (
-      omega (arith, self.room, c.push-reserved.ensures.capacity),
-      (
-        omega arith,
-        (
-          omega (arith, self.spare, c.push-reserved-2.ensures.capacity),
-          (
-            omega (arith, self.each, c.push-reserved-2.ensures.len, one_more),
-            (
-              ∥∥₁_map self.knows (λ known.
-                  let before = now_known heard kept marks count self.known.atoms all there atoms-now full known in
-                  let here = subst (λ k. Knowledge (heard ++ m ∷ []) (known_by learnt.atoms k)) (sym kept') (c.learn.ensures.knows heard before) in
-                  subst (λ r. AllKnown (texts (vec_items c.push-reserved.new.self)) (texts (vec_items learnt.parts)) r) marks'
-                  (subst (λ k. AllKnown (texts (vec_items c.push-reserved.new.self)) k (marks ++ mark ∷ [])) kept'
-                  (subst (λ l. AllKnown l (kept ++ fresh) (marks ++ mark ∷ [])) heard' (known_more heard kept fresh m marks mark count many all self.rising full whole known here)))),
-              (
-                subst (λ r. Roomy (texts (vec_items learnt.parts)) r) marks' (subst (λ k. Roomy k (marks ++ mark ∷ [])) kept' (roomy_more heard kept fresh m marks mark count many all self.rising full whole self.roomy room)),
-                (
-                  subst Rising marks' (rising_more heard kept fresh m marks mark count many all self.rising full whole (omega (arith, whole, length-append kept fresh))),
-                  (ap (λ r. r.atoms.bits) last, (ap (λ r. r.parts) last ∙ c.len.ensures, tt)),
-                ),
-              ),
-            ),
-          ),
-        ),
-      ),
-    )
+    let one_more : vec_len c.push_reserved.new.self ≡ count + 1 = c.push_reserved.ensures.len in
+    let last : get_or (vec_items c.push_reserved-2.new.self) (vec_len c.push_reserved.new.self) no_mark ≡ mark =
+    (λ i. get_or (sym marks' i) (one_more i) no_mark) ∙ last_more heard kept fresh m marks mark count many all self.rising full whole in
+    record {
+      room = omega (arith, self.room, c.push_reserved.ensures.capacity);
+      few = omega arith;
+      spare = omega (arith, self.spare, c.push_reserved-2.ensures.capacity);
+      each = omega (arith, self.each, c.push_reserved-2.ensures.len, one_more);
+      knows = ∥∥₁_map self.knows (λ known.
+          let before = now_known heard kept marks count self.known.atoms all there atoms-now full known in
+          let here = subst (λ k. Knowledge (heard ++ m ∷ []) (known_by learnt.atoms k)) (sym kept') (c.learn.ensures.knows heard before) in
+          subst (λ r. AllKnown (texts (vec_items c.push_reserved.new.self)) (texts (vec_items learnt.parts)) r) marks'
+          (subst (λ k. AllKnown (texts (vec_items c.push_reserved.new.self)) k (marks ++ mark ∷ [])) kept'
+          (subst (λ l. AllKnown l (kept ++ fresh) (marks ++ mark ∷ [])) heard' (known_more heard kept fresh m marks mark count many all self.rising full whole known here))));
+      roomy = subst (λ r. Roomy (texts (vec_items learnt.parts)) r) marks' (subst (λ k. Roomy k (marks ++ mark ∷ [])) kept' (roomy_more heard kept fresh m marks mark count many all self.rising full whole self.roomy room));
+      rising = subst Rising marks' (rising_more heard kept fresh m marks mark count many all self.rising full whole (omega (arith, whole, length-append kept fresh)));
+      atoms = ap (λ r. r.atoms.bits) last;
+      parts = ap (λ r. r.parts) last ∙ c.len.ensures;
+    }
 
 pub returns : goal.returns
 returns c =
@@ -102,6 +92,6 @@ returns c =
     let room : length heard < 128 = omega (arith, c.count.ensures.value) in
     record {
       answer = hear_taken heard c.args.message.now told.0 room;
-      list = heard_more (vec_items messages) (vec_items c.push-reserved.new.self) c.in-Some.message c.args.message.now c.push-reserved.ensures.items told.1 told.0 room;
+      list = heard_more (vec_items messages) (vec_items c.push_reserved.new.self) c.in-Some.message c.args.message.now c.push_reserved.ensures.items told.1 told.0 room;
       relation = refl;
     }

@@ -1,4 +1,4 @@
-use Rattle.std.proofs.Common.{◌<◌, ◌≤◌, [], ◌∷◌, ◌++◌, length, vec_items, sym, refl, ap, ◌∙◌, arith}
+use Rattle.std.proofs.Common.{◌<◌, ◌≤◌, length, vec_items, refl, arith}
 use Rattle.std.proofs.lemmas.List.{length-map}
 use Rattle.message.specs.Messages.{message_text}
 use Rattle.attacker.specs.Texts.{texts}
@@ -12,14 +12,17 @@ returns-then-count-ge128 c =
     let full : 128 ≤ length heard = omega (arith, c.count.ensures.value) in
     record { answer = hear_full heard c.args.message.now told.0 full; list = list_full heard c.args.message.now told.0 full; relation = refl }
 
-pub invariant-of-self : goal.invariant-of-self
-invariant-of-self c =
+pub invariant_of-self : goal.invariant_of-self
+invariant_of-self c =
     let self = c.args.self.now in
     let many = length-map (vec_items self.messages) message_text in
-    (omega (arith, self.room, c.push-reserved.ensures.capacity), (omega (arith, c.count.ensures.value, many, self.messages.ok.0, c.push-reserved.ensures.len), tt))
+    record {
+      room = omega (arith, self.room, c.push_reserved.ensures.capacity);
+      few = omega (arith, c.count.ensures.value, many, self.messages.ok.0, c.push_reserved.ensures.len);
+    }
 
-pub push-reserved-requires : goal.push-reserved-requires
-push-reserved-requires c =
+pub push_reserved-requires : goal.push_reserved-requires
+push_reserved-requires c =
     let self = c.args.self.now in
     omega (arith, c.count.ensures.value, length-map (vec_items self.messages) message_text, self.messages.ok.0, self.room)
 
@@ -31,6 +34,6 @@ returns c =
     let room : length heard < 128 = omega (arith, c.count.ensures.value) in
     record {
       answer = hear_taken heard c.args.message.now told.0 room;
-      list = heard_more (vec_items messages) (vec_items c.push-reserved.new.self) c.in-Some.message c.args.message.now c.push-reserved.ensures.items told.1 told.0 room;
+      list = heard_more (vec_items messages) (vec_items c.push_reserved.new.self) c.in-Some.message c.args.message.now c.push_reserved.ensures.items told.1 told.0 room;
       relation = refl;
     }
