@@ -4,7 +4,7 @@ use Rattle.command.proofs.skip_blanks.Goals as goal
 
 pub loop-left-preserved : goal.loop-left-preserved
 loop-left-preserved c = (
-  unblanked_more c.loop-left.left.now (omega (arith, ltb-false)) c.if-is-blank.ensures.value
+  unblanked_more c.loop-left.left.now (omega (arith, ltb-false)) c.if-is_blank.ensures.value
       ∙ c.loop-left.invariant.0,
   search rules,
 )
@@ -16,9 +16,9 @@ returns-then-left-lt1 c =
       within = c.loop-left.invariant.1;
     }
 
-pub returns-else-is-blank : goal.returns-else-is-blank
-returns-else-is-blank c =
+pub returns-else-is_blank : goal.returns-else-is_blank
+returns-else-is_blank c =
     record {
-      value = sym (unblanked_stops c.loop-left.left.now c.if-is-blank.ensures.value) ∙ c.loop-left.invariant.0;
+      value = sym (unblanked_stops c.loop-left.left.now c.if-is_blank.ensures.value) ∙ c.loop-left.invariant.0;
       within = c.loop-left.invariant.1;
     }

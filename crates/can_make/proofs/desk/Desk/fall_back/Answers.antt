@@ -4,5 +4,5 @@ use Rattle.std.proofs.lemmas.List.{take_all}
 use Rattle.std.proofs.lemmas.Bool.Decides.{nat_tests}
 use Rattle.can_make.proofs.desk.Desk.fall_back.Goals as goal
 
-pub returns-in-err-fall-back : goal.returns-in-err-fall-back
-returns-in-err-fall-back g c = search (rules, nat_tests, take_all)
+pub returns-in_err-fall_back : goal.returns-in_err-fall_back
+returns-in_err-fall_back g c = search (rules, nat_tests, take_all)
