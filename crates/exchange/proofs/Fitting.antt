@@ -1,5 +1,5 @@
 -- Keeping every rule, and passing the one test of it.
-use Rattle.std.proofs.Common.{◌≡◌, true, ◌&&◌, leb, length}
+use Rattle.std.proofs.Common.{◌≡◌, true, leb, length}
 use Rattle.std.proofs.lemmas.Bool.{and_from, and_parts, le-leb, leb-true}
 use Rattle.exchange.specs.Exchanges.{Exchange}
 use Rattle.exchange.specs.Rules.{Fit, is_fit, each, once, within, atoms_of, declaration_fits, message_fits, role_fits, session_fits, claim_fits}

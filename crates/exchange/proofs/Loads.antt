@@ -1,5 +1,5 @@
 -- What a file loads as, and what that says of it.
-use Rattle.std.proofs.Common.{◌≡◌, ℕ, suc, ◌<◌, ◌≤◌, true, false, List, length, None, sym, refl, ap, ◌∙◌, arith}
+use Rattle.std.proofs.Common.{◌≡◌, ℕ, suc, ◌<◌, ◌≤◌, true, false, List, length, None, sym, ap, ◌∙◌, arith}
 use Rattle.std.proofs.lemmas.Bool.{le-leb, lt-leb}
 use Rattle.message.specs.declared.stop.Stop.{Stop}
 use Rattle.message.specs.declared.stop.Stop.TheVariants.{FileTooLong}

@@ -1,10 +1,10 @@
 -- Noting the variables of a role, of which there may be 8.
-use Rattle.std.proofs.Common.{◌≡◌, ℕ, ◌+◌, ◌<◌, ◌≤◌, Bool, true, false, not, ◌&&◌, leb, List, [], ◌∷◌, ◌++◌, length, get_or, take, drop, set, sym, refl, ap, ◌∙◌, arith}
+use Rattle.std.proofs.Common.{◌≡◌, ℕ, ◌+◌, ◌<◌, true, false, not, ◌&&◌, leb, List, [], ◌∷◌, ◌++◌, length, get_or, take, drop, set, sym, ap, ◌∙◌, arith}
 use Rattle.std.proofs.lemmas.List.{length_push, length-take-le, take_more_set, at_drop_more}
 use Rattle.std.proofs.lemmas.Bool.{le-leb, lt-leb, leb-false}
 use Rattle.message.specs.Bytes.{is_variable}
 use Rattle.message.specs.Variables.{among, is_new, noted, firsts_from, firsts}
-use Rattle.message.proofs.Firsts.{noted_new, noted_old}
+use Rattle.message.proofs.Firsts.{noted_new}
 use Rattle.std.specs.List.{flat_map}
 use Rattle.exchange.specs.Exchanges.{Step}
 use Rattle.exchange.specs.Rules.{form_in, role_variables}

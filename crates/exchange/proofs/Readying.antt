@@ -1,11 +1,11 @@
 -- A field that is due, passes no limit and has a length that fits finds its place; and how a field is cut off.
-use Rattle.std.proofs.Common.{◌≡◌, ℕ, suc, ◌+◌, ◌-◌, ◌*◌, ◌<◌, ◌≤◌, Bool, true, false, eqb, ltb, leb, List, [], ◌∷◌, length, get_or, take, drop, Some, None, Ok, Option, sym, refl, ap, ◌∙◌, subst, arith}
+use Rattle.std.proofs.Common.{◌≡◌, ℕ, suc, ◌+◌, ◌-◌, ◌*◌, ◌≤◌, true, false, leb, List, [], ◌∷◌, length, get_or, take, drop, Some, None, Ok, Option, sym, ap, ◌∙◌, subst, arith}
 use Rattle.std.proofs.lemmas.List.{take_rest}
 use Rattle.std.proofs.lemmas.Bool.{and_parts, ltb-true, leb-true, le-leb}
 use Rattle.message.specs.declared.stop.Stop.TheVariants.{WrongLength}
 use Rattle.exchange.specs.declared.tag.Tag.{Tag}
 use Rattle.exchange.specs.declared.tag.Tag.TheVariants.{AtomTag, OpeningTag, RoleTag, StepTag, SessionTag, ClaimTag, EndTag}
-use Rattle.exchange.specs.Checks.{Item, declares, opens, role, does, runs, claims, finish, is_due, has_room, length_fits, last_role, value_item, item_of, cut}
+use Rattle.exchange.specs.Checks.{Item, declares, opens, role, runs, finish, is_due, has_room, length_fits, last_role, value_item, item_of, cut}
 use Rattle.exchange.specs.Exchanges.{Exchange}
 use Rattle.exchange.specs.Reading.{Ready}
 use Rattle.exchange.specs.Rules.{within}

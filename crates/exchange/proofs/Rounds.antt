@@ -1,5 +1,5 @@
 -- One turn of reading a file, where enough turns are left.
-use Rattle.std.proofs.Common.{◌≡◌, ℕ, zero, suc, ◌+◌, ◌<◌, ◌≤◌, Bool, true, false, ◌&&◌, leb, List, length, drop, Some, Ok, Err, Option, Result, sym, refl, ap, ◌∙◌, arith}
+use Rattle.std.proofs.Common.{◌≡◌, ℕ, zero, suc, ◌+◌, ◌<◌, ◌≤◌, true, false, ◌&&◌, leb, List, length, drop, Some, Ok, Err, Option, Result, sym, ap, ◌∙◌, arith}
 use Rattle.message.specs.declared.stop.Stop.{Stop}
 use Rattle.exchange.specs.declared.refusal.Refusal.{Refusal}
 use Rattle.exchange.specs.declared.tag.Tag.{Tag}

@@ -1,5 +1,5 @@
 -- What loading a file answers, and what is read of it.
-use Rattle.std.specs.Prelude.{ℕ, List, Ok, Err, Result}
+use Rattle.std.specs.Prelude.{ℕ, Ok, Err, Result}
 use Rattle.message.specs.declared.stop.Stop.{Stop}
 use Rattle.exchange.specs.declared.refusal.Refusal.{Refusal}
 use Rattle.exchange.specs.Checks.{Outcome, accepted, refused}

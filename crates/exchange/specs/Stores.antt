@@ -1,5 +1,5 @@
 -- What a store holds, and what its calls answer and leave.
-use Rattle.std.specs.Prelude.{◌≡◌, ℕ, Bool, true, false, List, ◌++◌, length, drop, Some, None, Ok, Err, Option, Result, nat_le}
+use Rattle.std.specs.Prelude.{ℕ, true, false, List, ◌++◌, length, drop, Some, None, Ok, Err, Option, Result, nat_le}
 use Rattle.std.specs.Borrow.{Bor}
 use Rattle.message.specs.declared.stop.Stop.{Stop}
 use Rattle.message.specs.declared.stop.Stop.TheVariants.{BufferTooSmall, NoExchange}

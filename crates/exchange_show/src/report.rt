@@ -1,6 +1,9 @@
 // What is printed of a file.
-ghost use Rattle.std.specs.Prelude.{◌≡◌, IfOk, Some, None};
+ghost use Rattle.std.specs.Prelude.{◌≡◌, ◌≤◌, length, IfOk, IfSome, Some, None};
 ghost use Rattle.exchange.specs.Checks.{refused};
+ghost use Rattle.exchange.specs.Exchanges.{Exchange as Model};
+ghost use Rattle.exchange.specs.Files.{file_bytes};
+ghost use Rattle.exchange.specs.Stores.{held};
 ghost use Rattle.exchange.specs.Views.{exchange_of};
 ghost use Rattle.exchange_show.specs.Report.{end_line, accepted_text, outcome_text, report_text};
 ghost use Rattle.listing.specs.Puts.{Puts};
@@ -53,7 +56,10 @@ fn put_accepted(
 }
 
 // How many bytes the store writes, where they are those of the file.
-fn written_size(store: &Store, file: &[u8]) -> Option<usize> {
+fn written_size(store: &Store, file: &[u8]) -> Option<usize>
+    ensures same { (x : Model) → held store.now ≡ Some x → file_bytes x ≡ file.now → length file.now ≤ 8192 → result ≡ Some (length (file_bytes x)) }
+    ensures only { IfSome result (λ n. (x : Model) × (held store.now ≡ Some x) × (file_bytes x ≡ file.now) × (n ≡ length (file_bytes x))) }
+{
     let mut written = [0; 8192];
     match store.write(&mut written) {
         Ok(n) if n <= 8192 && same_bytes(&written[0..n], file) => Some(n),

@@ -27,7 +27,7 @@ pub(crate) fn put_all<P: Part>(
     atoms: &[Declaration],
     parts: &[P],
 ) -> Result<(), AllocError>
-    ensures puts { Puts result text.old.items text.new.items (numbered (shown (map declaration_of atoms.now)) 0 parts.now) }
+    ensures puts { Puts result text.old.items text.new.items (numbered (P.Part.shown (map declaration_of atoms.now)) 0 parts.now) }
 {
     for (number, part) in parts.iter().enumerate() {
         part.put(text, atoms, number)?;

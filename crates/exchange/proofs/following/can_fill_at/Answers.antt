@@ -1,4 +1,4 @@
-use Rattle.std.proofs.Common.{◌≡◌, ◌<◌, ◌≤◌, [], map, length, take, ap, ◌∙◌, arith}
+use Rattle.std.proofs.Common.{◌<◌, [], length, take, ap, ◌∙◌, arith}
 use Rattle.std.proofs.lemmas.List.{length-map}
 use Rattle.exchange.specs.Exchanges.{sends}
 use Rattle.exchange.specs.Parts.{step_of}
@@ -8,11 +8,11 @@ use Rattle.exchange.specs.Sessions.{starts_in}
 use Rattle.exchange.proofs.Places.{placed, front_seen, place_seen}
 use Rattle.exchange.proofs.following.can_fill_at.Goals as goal
 
-pub slice-bounds-can-fill-end : goal.slice-bounds-can-fill-end
-slice-bounds-can-fill-end c = omega (arith, c.requires, length-map c.steps-steps.result.now step_of, ap length c.steps-steps.ensures.value)
+pub slice_bounds-can_fill-end : goal.slice_bounds-can_fill-end
+slice_bounds-can_fill-end c = omega (arith, c.requires, length-map c.steps-steps.result.now step_of, ap length c.steps-steps.ensures.value)
 
-pub offset-bounds-steps-line : goal.offset-bounds-steps-line
-offset-bounds-steps-line c =
+pub offset_bounds-steps-line : goal.offset_bounds-steps-line
+offset_bounds-steps-line c =
     let role = c.args.role.now in
     omega (arith, c.requires, placed step_of role.steps role.count (omega (arith, role.whole, role.fits)), role.fits)
 
@@ -29,7 +29,7 @@ returns c =
     let within : line < length steps = omega (arith, c.requires, length-map steps step_of, ap length is) in
     record {
       value =
-          c.can-fill.ensures.value
+          c.can_fill.ensures.value
           ∙ (ap (λ l. can_fill starts l (step_of c.index-steps-line.result)) (front_seen step_of steps role line is)
           ∙ ap (can_fill starts (take line role)) (place_seen step_of steps role line c.index-steps-line.result (sends []) is within c.index-steps-line.is));
     }

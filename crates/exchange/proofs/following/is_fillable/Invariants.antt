@@ -1,4 +1,4 @@
-use Rattle.std.proofs.Common.{◌≡◌, true, map, take}
+use Rattle.std.proofs.Common.{◌≡◌, true, take}
 use Rattle.exchange.specs.Roles.{role_of}
 use Rattle.exchange.specs.Rules.{each_below, can_fill, step_at}
 use Rattle.exchange.specs.Sessions.{starts_in}

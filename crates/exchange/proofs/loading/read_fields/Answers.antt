@@ -1,28 +1,28 @@
-use Rattle.std.proofs.Common.{◌≡◌, ℕ, suc, ◌+◌, ◌-◌, ◌<◌, ◌≤◌, List, length, take, drop, None, Ok, Err, sym, refl, ap, ◌∙◌, arith}
+use Rattle.std.proofs.Common.{◌≡◌, suc, ◌+◌, ◌-◌, ◌≤◌, length, take, drop, None, Ok, Err, sym, ap, ◌∙◌, arith}
 use Rattle.std.proofs.lemmas.List.{take_rest, length-drop}
 use Rattle.std.proofs.lemmas.Result.{err_from_is_err_and, IfOk-at_ok}
 use Rattle.exchange.specs.Answers.{outcome_of}
-use Rattle.exchange.specs.Checks.{blank, turn, refused, reading}
+use Rattle.exchange.specs.Checks.{turn, refused, reading}
 use Rattle.exchange.specs.Reading.{turned}
 use Rattle.exchange.specs.Views.{exchange_of}
 use Rattle.exchange.proofs.Rounds.{round_on, round_refused, round_ends, placed_ok, placed_err}
 use Rattle.exchange.proofs.loading.read_fields.Goals as goal
 
 -- a field was taken: what that says of the turn, and how many bytes it has
-record Took (c : goal.In-ok-tag) : Type 0 where
-  turns : turn c.loop-last.last (exchange_of c.loop-last.draft) (drop c.loop-last.at c.args.file.now) ≡ Ok (record { tag = c.in-ok-tag.tag; exchange = exchange_of c.read-field.new.self; size = c.in-ok-tag.size })
-  some : 3 ≤ c.in-ok-tag.size
-  inside : c.loop-last.at + c.in-ok-tag.size ≤ length c.args.file.now
+record Took (c : goal.In_ok-tag) : Type 0 where
+  turns : turn c.loop-last.last (exchange_of c.loop-last.draft) (drop c.loop-last.at c.args.file.now) ≡ Ok (record { tag = c.in_ok-tag.tag; exchange = exchange_of c.read_field.new.self; size = c.in_ok-tag.size })
+  some : 3 ≤ c.in_ok-tag.size
+  inside : c.loop-last.at + c.in_ok-tag.size ≤ length c.args.file.now
 
-took : (c : goal.In-ok-tag) → Took c
+took : (c : goal.In_ok-tag) → Took c
 took c =
     let file = c.args.file.now in
     let at = c.loop-last.at in
-    let r = c.read-field.result in
-    let came = placed_ok r at (c.in-ok-tag.tag, c.in-ok-tag.size) c.in-ok-tag.ensures.value in
-    let within = IfOk-at_ok (λ t. (3 ≤ t.1) × (t.1 ≤ length (take (length file - at) (drop at file)))) came c.read-field.ensures.within in
+    let r = c.read_field.result in
+    let came = placed_ok r at (c.in_ok-tag.tag, c.in_ok-tag.size) c.in_ok-tag.ensures.value in
+    let within = IfOk-at_ok (λ t. (3 ≤ t.1) × (t.1 ≤ length (take (length file - at) (drop at file)))) came c.read_field.ensures.within in
     record {
-      turns = ap (turn c.loop-last.last (exchange_of c.loop-last.draft)) (sym (take_rest file at)) ∙ (sym c.read-field.ensures.turn ∙ ap (λ q. turned q (exchange_of c.read-field.new.self)) came);
+      turns = ap (turn c.loop-last.last (exchange_of c.loop-last.draft)) (sym (take_rest file at)) ∙ (sym c.read_field.ensures.turn ∙ ap (λ q. turned q (exchange_of c.read_field.new.self)) came);
       some = within.0;
       inside = omega (arith, within.1, ap length (take_rest file at), length-drop at file, c.loop-last.invariant.0);
     }
@@ -31,7 +31,7 @@ pub loop-last-preserved : goal.loop-last-preserved
 loop-last-preserved c =
     let inv = c.loop-last.invariant in
     let t = took c in
-    let next = round_on inv.1.0 c.args.file.now c.loop-last.at c.loop-last.last (exchange_of c.loop-last.draft) (record { tag = c.in-ok-tag.tag; exchange = exchange_of c.read-field.new.self; size = c.in-ok-tag.size }) inv.0 inv.1.1 (sym c.loop-last-test.ensures.value) t.turns t.some in
+    let next = round_on inv.1.0 c.args.file.now c.loop-last.at c.loop-last.last (exchange_of c.loop-last.draft) (record { tag = c.in_ok-tag.tag; exchange = exchange_of c.read_field.new.self; size = c.in_ok-tag.size }) inv.0 inv.1.1 (sym c.loop-last-test.ensures.value) t.turns t.some in
     (t.inside, (next.0, next.1, next.2 ∙ inv.1.2))
 
 pub loop-last-init : goal.loop-last-init
@@ -42,20 +42,20 @@ loop-last-init c =
 pub loop-last-smaller : goal.loop-last-smaller
 loop-last-smaller c = omega (arith, (took c).some, (took c).inside)
 
-pub overflow-add-at : goal.overflow-add-at
-overflow-add-at c = omega (arith, (took c).inside, c.well-formed)
+pub overflow_add-at : goal.overflow_add-at
+overflow_add-at c = omega (arith, (took c).inside, c.well_formed)
 
-pub returns-in-err-tag : goal.returns-in-err-tag
-returns-in-err-tag c =
+pub returns-in_err-tag : goal.returns-in_err-tag
+returns-in_err-tag c =
     let file = c.args.file.now in
     let at = c.loop-last.at in
     let inv = c.loop-last.invariant in
     let x = exchange_of c.loop-last.draft in
-    let y = exchange_of c.read-field.new.self in
-    let e = c.in-err-tag.field-0.0 in
-    let p = err_from_is_err_and c.from-residual.result c.from-residual.ensures.1 in
-    let q = placed_err c.read-field.result at e c.in-err-tag.ensures.value in
-    let turns : turn c.loop-last.last x (drop at file) ≡ Err e.stop = ap (turn c.loop-last.last x) (sym (take_rest file at)) ∙ (sym c.read-field.ensures.turn ∙ ap (λ r. turned r y) q.0) in
+    let y = exchange_of c.read_field.new.self in
+    let e = c.in_err-tag.field-0.0 in
+    let p = err_from_is_err_and c.from_residual.result c.from_residual.ensures.1 in
+    let q = placed_err c.read_field.result at e c.in_err-tag.ensures.value in
+    let turns : turn c.loop-last.last x (drop at file) ≡ Err e.stop = ap (turn c.loop-last.last x) (sym (take_rest file at)) ∙ (sym c.read_field.ensures.turn ∙ ap (λ r. turned r y) q.0) in
     record {
       outcome =
           ap (λ r. outcome_of r y) (p.1 ∙ ap Err p.2)

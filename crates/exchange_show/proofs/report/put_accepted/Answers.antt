@@ -8,11 +8,11 @@ use Rattle.exchange_show.proofs.report.put_accepted.Goals as goal
 
 pub returns : goal.returns
 returns c =
-    let r = c.put-end.result in
+    let r = c.put_end.result in
     let t0 = vec_items c.args.text.now in
-    let t1 = vec_items c.put-bytes.new.text in
-    let t2 = vec_items c.put-listing.new.text in
-    let t3 = vec_items c.put-end.new.text in
+    let t1 = vec_items c.put_bytes.new.text in
+    let t2 = vec_items c.put_listing.new.text in
+    let t3 = vec_items c.put_end.new.text in
     let listing = listing_text (exchange_of c.args.exchange.now) in
     let end = end_line c.args.size in
-    record { puts = then_puts r t0 t1 t3 (codes "accepted" ++ newline) (listing ++ end) c.in-ok-put-bytes.ensures.puts (then_puts r t1 t2 t3 listing end c.in-ok-put-listing.ensures.puts c.put-end.ensures.puts) }
+    record { puts = then_puts r t0 t1 t3 (codes "accepted" ++ newline) (listing ++ end) c.in_ok-put_bytes.ensures.puts (then_puts r t1 t2 t3 listing end c.in_ok-put_listing.ensures.puts c.put_end.ensures.puts) }

@@ -1,8 +1,8 @@
 use Rattle.std.proofs.Common.{append_assoc, rules}
 use Rattle.listing.proofs.steps.put_step.Goals as goal
 
-pub returns-in-ok-put-word : goal.returns-in-ok-put-word
-returns-in-ok-put-word c = search (rules, append_assoc)
+pub returns-in_ok-put_word-in-Send : goal.returns-in_ok-put_word-in-Send
+returns-in_ok-put_word-in-Send c = search (rules, append_assoc)
 
-pub returns-in-ok-put-word-2 : goal.returns-in-ok-put-word-2
-returns-in-ok-put-word-2 c = search (rules, append_assoc)
+pub returns-in_ok-put_word-in-Receive : goal.returns-in_ok-put_word-in-Receive
+returns-in_ok-put_word-in-Receive c = search (rules, append_assoc)

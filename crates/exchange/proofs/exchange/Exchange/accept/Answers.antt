@@ -5,4 +5,4 @@ use Rattle.exchange.specs.Views.{exchange_of}
 use Rattle.exchange.proofs.exchange.Exchange.accept.Goals as goal
 
 pub returns-in-Opening : goal.returns-in-Opening
-returns-in-Opening c = record { added = c.add-opening.ensures.added ∙ ap (λ f. adds (exchange_of c.args.self.now) (item_seen f)) (sym c.in-Opening.is) }
+returns-in-Opening c = record { added = c.add_opening.ensures.added ∙ ap (λ f. adds (exchange_of c.args.self.now) (item_seen f)) (sym c.in-Opening.is) }

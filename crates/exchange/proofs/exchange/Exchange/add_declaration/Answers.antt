@@ -1,4 +1,4 @@
-use Rattle.std.proofs.Common.{◌≡◌, true, vec_items, sym, ap, ◌∙◌, arith}
+use Rattle.std.proofs.Common.{vec_items, sym, ap, ◌∙◌, arith}
 use Rattle.message.specs.Bytes.{is_atom}
 use Rattle.exchange.specs.Atoms.{declaration_of, atoms_in}
 use Rattle.exchange.specs.Labels.{label_text}
@@ -8,42 +8,30 @@ use Rattle.exchange.proofs.Adding.{push_seen, declaration_added, atoms_more, ato
 use Rattle.exchange.proofs.Each.{each_push, once_push}
 use Rattle.exchange.proofs.exchange.Exchange.add_declaration.Goals as goal
 
-pub push-reserved-requires : goal.push-reserved-requires
-push-reserved-requires c =
+pub push_reserved-requires : goal.push_reserved-requires
+push_reserved-requires c =
     let self = c.args.self.now in
-    omega (arith, atom_room (vec_items self.atoms) c.args.atom self.atoms_are self.atoms_once c.if-not-is-atom.ensures.value c.if-declares.ensures.value, self.atoms.ok.0, self.atom_room)
+    omega (arith, atom_room (vec_items self.atoms) c.args.atom self.atoms_are self.atoms_once c.if-not-is_atom.ensures.value c.if-declares.ensures.value, self.atoms.ok.0, self.atom_room)
 
-pub invariant-of-self : goal.invariant-of-self
-invariant-of-self c =
+pub invariant_of-self : goal.invariant_of-self
+invariant_of-self c =
     let self = c.args.self.now in
     let items = vec_items self.atoms in
     let a = c.args.atom in
-    let more = atoms_more items (vec_items c.push-reserved.new.self) (record { atom = a; label = c.in-ok-label.label }) c.push-reserved.ensures.items in (
-      omega (arith, self.atom_room, c.push-reserved.ensures.capacity),
-      (
-        self.opening_room,
-        (
-          self.role_room,
-          (
-            self.session_room,
-            (
-              self.claim_room,
-              (
-                ap (each is_atom) more ∙ each_push is_atom (atoms_in items) a self.atoms_are (sym c.if-not-is-atom.ensures.value),
-                (
-                  ap once more ∙ once_push (atoms_in items) a self.atoms_once (sym c.if-declares.ensures.value),
-                  tt,
-                ),
-              ),
-            ),
-          ),
-        ),
-      ),
-    )
+    let more = atoms_more items (vec_items c.push_reserved.new.self) (record { atom = a; label = c.in_ok-label.label }) c.push_reserved.ensures.items in
+    record {
+      atom_room = omega (arith, self.atom_room, c.push_reserved.ensures.capacity);
+      opening_room = self.opening_room;
+      role_room = self.role_room;
+      session_room = self.session_room;
+      claim_room = self.claim_room;
+      atoms_are = ap (each is_atom) more ∙ each_push is_atom (atoms_in items) a self.atoms_are (sym c.if-not-is_atom.ensures.value);
+      atoms_once = ap once more ∙ once_push (atoms_in items) a self.atoms_once (sym c.if-declares.ensures.value);
+    }
 
 pub returns : goal.returns
 returns c =
     let self = c.args.self.now in
-    let label = c.in-ok-label.label in
-    let told = c.in-ok-label.ensures.value in
-    record { added = declaration_added (exchange_of self) c.args.atom c.args.label.now (label_text label) _ c.if-declares.ensures.value c.if-not-is-atom.ensures.value told.0 told.1 (push_seen declaration_of (vec_items self.atoms) (vec_items c.push-reserved.new.self) (record { atom = c.args.atom; label = label }) c.push-reserved.ensures.items) }
+    let label = c.in_ok-label.label in
+    let told = c.in_ok-label.ensures.value in
+    record { added = declaration_added (exchange_of self) c.args.atom c.args.label.now (label_text label) _ c.if-declares.ensures.value c.if-not-is_atom.ensures.value told.0 told.1 (push_seen declaration_of (vec_items self.atoms) (vec_items c.push_reserved.new.self) (record { atom = c.args.atom; label = label }) c.push_reserved.ensures.items) }

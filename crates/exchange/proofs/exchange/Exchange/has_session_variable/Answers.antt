@@ -1,4 +1,4 @@
-use Rattle.std.proofs.Common.{◌≡◌, ◌<◌, ◌≤◌, ◌&&◌, [], map, length, get_or, vec_items, sym, refl, ap, ◌∙◌, arith}
+use Rattle.std.proofs.Common.{◌≡◌, ◌<◌, ◌&&◌, [], length, get_or, vec_items, sym, refl, ap, ◌∙◌, arith}
 use Rattle.std.proofs.lemmas.List.{length-map}
 use Rattle.std.proofs.lemmas.Bool.{ltb-true, ltb-false, lt-ltb, le-ltb}
 use Rattle.message.specs.Variables.{among}
@@ -23,7 +23,7 @@ returns-in-Some c =
     let within = lt-ltb s (length x.sessions) (omega (arith, here, length-map items session_of)) in
     record {
       value =
-          c.has-role-variable.ensures.value
+          c.has_role_variable.ensures.value
           ∙ (ap (λ r. among v (role_variables (role_at x.roles r))) (c.role.ensures.value ∙ ap (λ t. t.role) seen)
           ∙ sym (ap (λ t. t && among v (role_variables (role_at x.roles (session_at x.sessions s).role))) within));
     }

@@ -5,4 +5,4 @@ use Rattle.exchange.proofs.Readying as readying
 use Rattle.exchange.proofs.exchange.Exchange.take_field.Goals as goal
 
 pub accept-requires : goal.accept-requires
-accept-requires c = record { ready = readying.ready (exchange_of c.args.self.now) c.args.tag c.args.value.now (item_seen c.in-ok-field.field) (sym c.if-not-is-due.ensures.value) (sym c.if-not-has-room.ensures.value) (sym c.in-ok-field.ensures.value) }
+accept-requires c = record { ready = readying.ready (exchange_of c.args.self.now) c.args.tag c.args.value.now (item_seen c.in_ok-field.field) (sym c.if-not-is_due.ensures.value) (sym c.if-not-has_room.ensures.value) (sym c.in_ok-field.ensures.value) }

@@ -1,4 +1,4 @@
-use Rattle.std.proofs.Common.{◌≡◌, ◌+◌, ◌*◌, ◌≤◌, length, get_or, ap, ◌∙◌, arith, rules}
+use Rattle.std.proofs.Common.{◌≡◌, ◌+◌, ◌*◌, get_or, ap, ◌∙◌, rules}
 use Rattle.exchange.proofs.Readying.{cut_whole}
 use Rattle.exchange.proofs.exchange.accepting.cut_field.Goals as goal
 

@@ -6,6 +6,6 @@ pub returns-in-Atom : goal.returns-in-Atom
 unfolding is_atom
 returns-in-Atom c = search rules
 
-pub returns-in-default : goal.returns-in-default
+pub returns-in_default : goal.returns-in_default
 unfolding is_atom
-returns-in-default c = search rules
+returns-in_default c = search rules

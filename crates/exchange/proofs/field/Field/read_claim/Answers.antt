@@ -1,4 +1,4 @@
-use Rattle.std.proofs.Common.{arith, rules}
+use Rattle.std.proofs.Common.{rules}
 use Rattle.exchange.specs.declared.tag.Tag.TheVariants.{ClaimTag}
 use Rattle.exchange.proofs.Values.{value_one}
 use Rattle.exchange.proofs.field.Field.read_claim.Goals as goal

@@ -1,5 +1,4 @@
-use Rattle.std.proofs.Common.{◌≡◌, true, get_or, sym, ap, ◌∙◌, rules}
-use Rattle.std.proofs.lemmas.Bool.{lt-ltb}
+use Rattle.std.proofs.Common.{get_or, ◌∙◌, rules}
 use Rattle.exchange.specs.declared.tag.Tag.TheVariants.{StepTag}
 use Rattle.exchange.proofs.Values.{value_one, value_two, in_range}
 use Rattle.exchange.specs.Exchanges.{begins, ends}

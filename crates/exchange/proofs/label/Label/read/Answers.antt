@@ -9,4 +9,4 @@ loop-i-preserved c =
     (length-set c.loop-i.bytes c.loop-i.i _ ∙ inv.0, copy_more c.loop-i.bytes c.args.label.now c.loop-i.i 0 (omega (arith, c.requires)) (omega arith) inv.1)
 
 pub returns : goal.returns
-returns c = record { value = (sym c.if-not-is-label.ensures.value, copied_all c.loop-i.bytes c.args.label.now c.loop-i.i c.loop-i.auto.i-end c.loop-i-test.false c.loop-i.invariant.1) }
+returns c = record { value = (sym c.if-not-is_label.ensures.value, copied_all c.loop-i.bytes c.args.label.now c.loop-i.i c.loop-i.auto.i-end c.loop-i-test.false c.loop-i.invariant.1) }

@@ -1,8 +1,8 @@
-use Rattle.std.proofs.Common.{◌≡◌, ◌+◌, ◌≤◌, true, false, leb, length, get_or, take, drop, sym, refl, ap, ◌∙◌, arith}
+use Rattle.std.proofs.Common.{◌≡◌, ◌+◌, ◌≤◌, leb, length, get_or, drop, sym, refl, ap, ◌∙◌, arith}
 use borrow.Author.Tests.{clash}
 use Rattle.std.proofs.lemmas.List.{at_drop_more, at_drop_all, length-take-le}
 use Rattle.std.proofs.lemmas.Bool.{le-leb}
-use Rattle.message.specs.Variables.{noted, firsts_from}
+use Rattle.message.specs.Variables.{firsts_from}
 use Rattle.exchange.specs.Names.{names_in}
 use Rattle.exchange.proofs.Noting.{noted_too_many}
 use Rattle.exchange.proofs.names.Names.note_all.Goals as goal

@@ -1,6 +1,5 @@
 use Rattle.std.proofs.Common.{◌≡◌, true, [], ◌∷◌, refl}
 use Rattle.std.proofs.lemmas.Bool.{both_ways}
-use Rattle.message.specs.Bytes.{is_atom}
 use Rattle.message.specs.Trees.{is_form, reads}
 use Rattle.exchange.proofs.role.methods.filler.Goals as goal
 

@@ -1,4 +1,4 @@
-use Rattle.std.proofs.Common.{◌≡◌, ℕ, Bool, eqb, List, map, get_or, refl, ap}
+use Rattle.std.proofs.Common.{ℕ, Bool, eqb, List, map, get_or, refl, ap}
 use Rattle.std.proofs.lemmas.Bool.{eq-eqb, ne_eqb}
 use Rattle.message.specs.Variables.{among}
 use Rattle.exchange.specs.declared.session.Binding.{Binding}

@@ -1,4 +1,4 @@
-use Rattle.std.proofs.Common.{◌≡◌, true, false, Some, None, Option, sym, ap}
+use Rattle.std.proofs.Common.{true, false, Some, None, Option, sym, ap}
 use Rattle.exchange.specs.Exchanges.{Exchange}
 use Rattle.exchange.specs.Views.{exchange_of}
 use Rattle.exchange.proofs.Fitting.{fit_from_test}

@@ -1,4 +1,4 @@
-use Rattle.std.proofs.Common.{◌≡◌, length, Ok, Err, sym, refl, ap, ◌∙◌, arith}
+use Rattle.std.proofs.Common.{◌≡◌, length, Err, sym, ap, ◌∙◌, arith}
 use Rattle.std.proofs.lemmas.Result.{err_from_is_err_and, MatchResult-from_err}
 use Rattle.message.specs.declared.stop.Stop.TheVariants.{FileTooLong}
 use Rattle.exchange.specs.Answers.{answer_to}
@@ -20,36 +20,36 @@ returns-then-file-gt8192 c =
       lossless = lossless;
     }
 
-pub returns-in-err-read-fields : goal.returns-in-err-read-fields
-returns-in-err-read-fields c =
+pub returns-in_err-read_fields : goal.returns-in_err-read_fields
+returns-in_err-read_fields c =
     let file = c.args.file.now in
-    let e = c.in-err-read-fields.field-0.0 in
-    let p = err_from_is_err_and c.from-residual.result c.from-residual.ensures.1 in
-    let outcome : loads file ≡ refused e.stop e.place = loads_short file (omega (arith, c.if-file-gt8192.false)) ∙ sym c.in-err-read-fields.ensures.outcome in
+    let e = c.in_err-read_fields.field-0.0 in
+    let p = err_from_is_err_and c.from_residual.result c.from_residual.ensures.1 in
+    let outcome : loads file ≡ refused e.stop e.place = loads_short file (omega (arith, c.if-file-gt8192.false)) ∙ sym c.in_err-read_fields.ensures.outcome in
     record {
       answer = p.1 ∙ (ap Err p.2 ∙ ap answer_to (sym outcome));
       held = ap (held_after (held c.args.self.now)) (sym outcome);
-      exactly = MatchResult-from_err c.from-residual.result _ _ c.from-residual.ensures.0 (λ _. refused_unfit file e.stop e.place outcome);
+      exactly = MatchResult-from_err c.from_residual.result _ _ c.from_residual.ensures.0 (λ _. refused_unfit file e.stop e.place outcome);
       lossless = lossless;
     }
 
-pub take-over-requires : goal.take-over-requires
-take-over-requires c =
+pub take_over-requires : goal.take_over-requires
+take_over-requires c =
     let file = c.args.file.now in
-    let y = exchange_of c.read-fields.new.draft in
-    let outcome : loads file ≡ accepted y = loads_short file (omega (arith, c.if-file-gt8192.false)) ∙ sym c.in-ok-read-fields.ensures.outcome in
+    let y = exchange_of c.read_fields.new.draft in
+    let outcome : loads file ≡ accepted y = loads_short file (omega (arith, c.if-file-gt8192.false)) ∙ sym c.in_ok-read_fields.ensures.outcome in
     let kept = lossless.1 file y outcome in
     record { fit = test_from_fit y kept.0; sized = ap length (sym kept.1) }
 
 pub returns : goal.returns
 returns c =
     let file = c.args.file.now in
-    let y = exchange_of c.read-fields.new.draft in
-    let outcome : loads file ≡ accepted y = loads_short file (omega (arith, c.if-file-gt8192.false)) ∙ sym c.in-ok-read-fields.ensures.outcome in
+    let y = exchange_of c.read_fields.new.draft in
+    let outcome : loads file ≡ accepted y = loads_short file (omega (arith, c.if-file-gt8192.false)) ∙ sym c.in_ok-read_fields.ensures.outcome in
     let kept = lossless.1 file y outcome in
     record {
       answer = ap answer_to (sym outcome);
-      held = c.take-over.ensures.held ∙ ap (held_after (held c.args.self.now)) (sym outcome);
-      exactly = (y, kept.0, kept.1, c.take-over.ensures.held);
+      held = c.take_over.ensures.held ∙ ap (held_after (held c.args.self.now)) (sym outcome);
+      exactly = (y, kept.0, kept.1, c.take_over.ensures.held);
       lossless = lossless;
     }

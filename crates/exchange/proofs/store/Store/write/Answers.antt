@@ -1,4 +1,4 @@
-use Rattle.std.proofs.Common.{◌≡◌, ℕ, Bool, true, false, leb, List, ◌++◌, length, drop, IfSome, Some, None, Ok, Err, Option, Result, sym, refl, ap, ◌∙◌, subst, arith}
+use Rattle.std.proofs.Common.{◌≡◌, ℕ, Bool, true, false, leb, List, ◌++◌, length, drop, IfSome, Some, None, Ok, Err, Option, Result, sym, ap, ◌∙◌, subst, arith}
 use Rattle.std.proofs.lemmas.Bool.{le-leb, lt-leb}
 use Rattle.message.specs.declared.stop.Stop.{Stop}
 use Rattle.message.specs.declared.stop.Stop.TheVariants.{BufferTooSmall}
@@ -37,7 +37,7 @@ returns-then-self-out c =
     record {
       answer = sym (ap (λ h. write_answer h out) is ∙ answer_by bs out false small);
       bytes = sym (ap (λ h. written h out) is ∙ written_by bs out false small);
-      loads-again = again self c.if-not-self.false;
+      loads_again = again self c.if-not-self.false;
     }
 
 pub returns : goal.returns
@@ -50,5 +50,5 @@ returns c =
     record {
       answer = ap Ok c.write.ensures.size ∙ sym (ap (λ h. write_answer h out) is ∙ answer_by bs out true room);
       bytes = c.write.ensures.bytes ∙ sym (ap (λ h. written h out) is ∙ written_by bs out true room);
-      loads-again = again self c.if-not-self.false;
+      loads_again = again self c.if-not-self.false;
     }

@@ -1,4 +1,4 @@
-use Rattle.std.proofs.Common.{◌≡◌, map, vec_items, codes, decimal, ap, ◌∙◌, subst}
+use Rattle.std.proofs.Common.{map, vec_items, codes, decimal, ap, ◌∙◌, subst}
 use Rattle.exchange.specs.Atoms.{declaration_of}
 use Rattle.exchange.specs.Parts.{step_of}
 use Rattle.exchange.specs.Roles.{role_of}
@@ -11,8 +11,8 @@ use Rattle.listing.proofs.steps.RolePart.put.Goals as goal
 pub returns : goal.returns
 returns c =
     let line = step_line (map declaration_of c.args.atoms.now) in
-    let r = c.put-all.result in
-    let b = vec_items c.put-between.new.text in
-    let d = vec_items c.put-all.new.text in
+    let r = c.put_all.result in
+    let b = vec_items c.put_between.new.text in
+    let d = vec_items c.put_all.new.text in
     let row = numbered_map line step_of 0 c.steps.result.now ∙ ap (numbered line 0) c.steps.ensures.value in
-    record { puts = then_three r (vec_items c.args.text.now) b d (codes "role ") (decimal c.args.number) newline (numbered line 0 (role_of c.args.self.now)) c.in-ok-put-between.ensures.puts (subst (Puts r b d) row c.put-all.ensures.puts) }
+    record { puts = then_three r (vec_items c.args.text.now) b d (codes "role ") (decimal c.args.number) newline (numbered line 0 (role_of c.args.self.now)) c.in_ok-put_between.ensures.puts (subst (Puts r b d) row c.put_all.ensures.puts) }

@@ -5,12 +5,12 @@ use Rattle.exchange.specs.Parts.{step_of}
 use Rattle.exchange.proofs.Putting.{puts_both, puts_same, joined_map}
 use Rattle.exchange.proofs.exchange.writing.RolePart.put.Goals as goal
 
-pub put-all-requires : goal.put-all-requires
-put-all-requires c =
+pub put_all-requires : goal.put_all-requires
+put_all-requires c =
     let same = joined_map step_field step_of c.steps.result.now ∙ ap (flat_map step_field) c.steps.ensures.value in
-    record { room = omega (arith, c.requires.room, ap length same, c.put-start-first.ensures.puts.size, c.put-start-first.auto.out) }
+    record { room = omega (arith, c.requires.room, ap length same, c.put_start-first.ensures.puts.size, c.put_start-first.auto.out) }
 
 pub returns : goal.returns
 returns c =
     let same = joined_map step_field step_of c.steps.result.now ∙ ap (flat_map step_field) c.steps.ensures.value in
-    record { puts = puts_both _ _ _ _ _ _ (field 0x03 []) _ (omega (arith, c.requires.room)) c.put-start-first.ensures.puts (puts_same _ _ same c.put-all.ensures.puts) }
+    record { puts = puts_both _ _ _ _ _ _ (field 0x03 []) _ (omega (arith, c.requires.room)) c.put_start-first.ensures.puts (puts_same _ _ same c.put_all.ensures.puts) }
