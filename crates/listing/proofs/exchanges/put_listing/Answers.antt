@@ -1,5 +1,5 @@
 use Rattle.listing.proofs.Example.{worked}
 use Rattle.listing.proofs.exchanges.put_listing.Goals as goal
 
-pub returns : goal.returns
-returns c = record { puts = c.put_rows.ensures.puts; worked = worked }
+pub returns-clause-worked : goal.returns-clause-worked
+returns-clause-worked c = worked
