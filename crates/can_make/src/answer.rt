@@ -19,15 +19,12 @@ pub enum Answer {
     Nothing,
 }
 
-impl Answer {
-    // The answer of a call that may be refused.
-    pub fn of(res: Result<Answer, Stop>) -> Answer
-        ensures value { result ≡ settled res }
-    {
-        match res {
-            Ok(answer) => answer,
-            Err(stop) => Answer::Refused(stop),
-        }
+// A refusal is an answer too.
+impl From<Result<Answer, Stop>> for Answer {
+    ghost from_gives = { λ res answer. answer ≡ settled res };
+
+    fn from(res: Result<Answer, Stop>) -> Answer {
+        res.unwrap_or_else(Answer::Refused)
     }
 }
 
@@ -48,10 +45,7 @@ impl fmt::Display for Answer {
                 let repeater = yes_or_no(repeater);
                 write!(f, "full {full}, repeater {repeater}")
             }
-            Answer::Refused(stop) => {
-                let number = stop.number();
-                write!(f, "refused {number}")
-            }
+            Answer::Refused(stop) => write!(f, "refused {}", stop.number()),
             Answer::NotUnderstood(number) => write!(f, "line {number} not understood"),
             Answer::Nothing => Ok(()),
         }

@@ -11,11 +11,14 @@ use command::Command;
 use message::stop::Stop;
 
 #[derive(Drop)]
-pub struct Desk<F, R> {
+pub struct Desk<F: Attacker, R: Attacker> {
     full: F,
     repeater: R,
+    // both have heard the same
+    ghost together: { F.Attacker.heard full ≡ R.Attacker.heard repeater },
 }
 
+// Each call says that the two relations stay: an invariant compares no two moments, and a model's value holds no function.
 impl<F: Attacker, R: Attacker> Desk<F, R> {
     // Both attackers begin with nothing heard.
     pub fn new(mut full: F, mut repeater: R) -> Desk<F, R>
@@ -29,18 +32,17 @@ impl<F: Attacker, R: Attacker> Desk<F, R> {
         Desk { full, repeater }
     }
 
-    // The answer to the command on a line of that number. Where both have heard the same, they still have afterwards.
+    // The answer to the command on a line of that number.
     pub fn answer(&mut self, command: &Command, line: u64) -> Answer
-        ensures answer { F.Attacker.heard self.old.full ≡ R.Attacker.heard self.old.repeater → result ≡ (turn (F.Attacker.makes self.old.full) (R.Attacker.makes self.old.repeater) (F.Attacker.heard self.old.full) (seen command.now) line).0 }
+        ensures answer { result ≡ (turn (F.Attacker.makes self.old.full) (R.Attacker.makes self.old.repeater) (F.Attacker.heard self.old.full) (seen command.now) line).0 }
         ensures list { F.Attacker.heard self.new.full ≡ (turn (F.Attacker.makes self.old.full) (R.Attacker.makes self.old.repeater) (F.Attacker.heard self.old.full) (seen command.now) line).1 }
-        ensures together { F.Attacker.heard self.old.full ≡ R.Attacker.heard self.old.repeater → F.Attacker.heard self.new.full ≡ R.Attacker.heard self.new.repeater }
         ensures full_relation { F.Attacker.makes self.new.full ≡ F.Attacker.makes self.old.full }
         ensures repeater_relation { R.Attacker.makes self.new.repeater ≡ R.Attacker.makes self.old.repeater }
     {
         match command {
-            Command::Hear(message) => Answer::of(self.hear(message)),
-            Command::Ask(message) => Answer::of(self.ask(message)),
-            Command::Back(n) => Answer::of(self.fall_back(*n)),
+            Command::Hear(message) => Answer::from(self.hear(message)),
+            Command::Ask(message) => Answer::from(self.ask(message)),
+            Command::Back(n) => Answer::from(self.fall_back(*n)),
             Command::Nothing => Answer::Nothing,
             Command::Unknown => Answer::NotUnderstood(line),
         }
@@ -48,9 +50,8 @@ impl<F: Attacker, R: Attacker> Desk<F, R> {
 
     // Both hear the message.
     fn hear(&mut self, message: &[u8]) -> Result<Answer, Stop>
-        ensures answer { F.Attacker.heard self.old.full ≡ R.Attacker.heard self.old.repeater → settled result ≡ counted (hear_answer (F.Attacker.heard self.old.full) message.now) (heard_after (F.Attacker.heard self.old.full) message.now) }
+        ensures answer { settled result ≡ counted (hear_answer (F.Attacker.heard self.old.full) message.now) (heard_after (F.Attacker.heard self.old.full) message.now) }
         ensures list { F.Attacker.heard self.new.full ≡ heard_after (F.Attacker.heard self.old.full) message.now }
-        ensures together { F.Attacker.heard self.old.full ≡ R.Attacker.heard self.old.repeater → F.Attacker.heard self.new.full ≡ R.Attacker.heard self.new.repeater }
         ensures full_relation { F.Attacker.makes self.new.full ≡ F.Attacker.makes self.old.full }
         ensures repeater_relation { R.Attacker.makes self.new.repeater ≡ R.Attacker.makes self.old.repeater }
     {
@@ -70,9 +71,8 @@ impl<F: Attacker, R: Attacker> Desk<F, R> {
 
     // Both keep their first `n` messages.
     fn fall_back(&mut self, n: usize) -> Result<Answer, Stop>
-        ensures answer { F.Attacker.heard self.old.full ≡ R.Attacker.heard self.old.repeater → settled result ≡ counted (back_answer (F.Attacker.heard self.old.full) n) (take n (F.Attacker.heard self.old.full)) }
+        ensures answer { settled result ≡ counted (back_answer (F.Attacker.heard self.old.full) n) (take n (F.Attacker.heard self.old.full)) }
         ensures list { F.Attacker.heard self.new.full ≡ take n (F.Attacker.heard self.old.full) }
-        ensures together { F.Attacker.heard self.old.full ≡ R.Attacker.heard self.old.repeater → F.Attacker.heard self.new.full ≡ R.Attacker.heard self.new.repeater }
         ensures full_relation { F.Attacker.makes self.new.full ≡ F.Attacker.makes self.old.full }
         ensures repeater_relation { R.Attacker.makes self.new.repeater ≡ R.Attacker.makes self.old.repeater }
     {

@@ -28,9 +28,7 @@ fn main(rt: HostRuntime) -> io::Result<()> {
 fn converse<F: Attacker + Drop, R: Attacker + Drop>(
     rt: &HostRuntime,
     mut desk: Desk<F, R>,
-) -> io::Result<()>
-    requires together { F.Attacker.heard desk.full ≡ R.Attacker.heard desk.repeater }
-{
+) -> io::Result<()> {
     let mut input = BufReader::new(rt.alloc(), rt.stdin())?;
     let mut output = BufWriter::new(rt.alloc(), rt.stdout())?;
     let mut line = Vec::new(rt.alloc());
@@ -58,10 +56,8 @@ fn reply<F: Attacker, R: Attacker>(
     line: &[u8],
     number: u64,
 ) -> Result<Answer, AllocError>
-    requires together { F.Attacker.heard desk.old.full ≡ R.Attacker.heard desk.old.repeater }
     ensures answer { IfOk result (λ a. a ≡ (turn (F.Attacker.makes desk.old.full) (R.Attacker.makes desk.old.repeater) (F.Attacker.heard desk.old.full) (command_of (unfed line.now)) number).0) }
     ensures list { OnOk result (F.Attacker.heard desk.new.full ≡ (turn (F.Attacker.makes desk.old.full) (R.Attacker.makes desk.old.repeater) (F.Attacker.heard desk.old.full) (command_of (unfed line.now)) number).1) }
-    ensures together { F.Attacker.heard desk.new.full ≡ R.Attacker.heard desk.new.repeater }
     ensures full_relation { F.Attacker.makes desk.new.full ≡ F.Attacker.makes desk.old.full }
     ensures repeater_relation { R.Attacker.makes desk.new.repeater ≡ R.Attacker.makes desk.old.repeater }
 {
@@ -73,8 +69,5 @@ fn reply<F: Attacker, R: Attacker>(
 fn without_feed(line: &[u8]) -> &[u8]
     ensures value { result.now ≡ unfed line.now }
 {
-    match line {
-        [front @ .., b'\n'] => front,
-        _ => line,
-    }
+    line.strip_suffix(b"\n").unwrap_or(line)
 }

@@ -1,128 +1,98 @@
--- One turn of each loop over a text, and its ends.
-use Rattle.std.proofs.Common.{◌≡◌, ℕ, suc, ◌+◌, ◌-◌, ◌*◌, ◌<◌, ◌≤◌, true, false, List, [], ◌∷◌, ◌++◌, length, get_or, take, drop, Some, None, Option, sym, refl, ap, ◌∙◌, inl, inr, append_assoc, arith}
-use Rattle.std.proofs.lemmas.List.{at_drop_more, at_drop_all, take_rest, nil_from_length}
+-- Where a word and its blanks end, and one turn of each loop over hexadecimal or decimal digits, with its ends.
+use Rattle.std.proofs.Common.{◌≡◌, ℕ, ◌+◌, ◌-◌, ◌*◌, ◌<◌, ◌≤◌, Bool, true, false, not, position, unwrap_or, List, [], ◌∷◌, ◌++◌, length, get_or, take, drop, Some, None, Option, sym, refl, ap, ◌∙◌, inl, inr, append_assoc, append-nil, one-add, arith, vec_items, Vec, Global, ◌==◌}
+use Rattle.std.proofs.lemmas.List.{at_drop_more, at_drop_all, take_rest}
 use Rattle.std.proofs.lemmas.Bool.{cases_Bool}
 use Rattle.std.specs.Option.{option_map}
+use Rattle.std.specs.Bool.{then_some}
+use Rattle.std.proofs.lemmas.Iterator.Adapters.{option_map_id}
+use Rattle.std.specs.List.{position_or_len}
+use Rattle.std.proofs.lemmas.List.Sums.{prefix_len-le-length}
+use Rattle.std.proofs.lemmas.List.Recursion.{is_position_or_len}
+use Rattle.std.proofs.lemmas.Bool.Decides.{nat_tests}
 use Rattle.command.specs.Line.{blank, word_length, unblanked}
 use Rattle.command.specs.Values.{hex_byte, hex_bytes, decimal_digit, decimal_from, number_of, capped}
 
--- the word ends at a blank
-pub word_ends : (xs : List ℕ) (i : ℕ) → i < length xs → true ≡ blank (get_or xs i 0) → word_length (drop i xs) ≡ 0
+-- the first place that passes p, or the end where none does
+first_or_end : (p : ℕ → Bool) (xs : List ℕ) → unwrap_or (position p xs) (length xs) ≡ position_or_len p xs
+first_or_end p xs = grind (arith, nat_tests, prefix_len-le-length (λ x. not (p x)) xs)
+
+-- the word ends before the first blank
+pub word_length_is : (xs : List ℕ) → unwrap_or (position blank xs) (length xs) ≡ word_length xs
 unfolding word_length
-word_ends xs i l is = at_drop_more word_length xs i 0 l ∙ rw (← is, word_length)
+word_length_is xs =
+    first_or_end blank xs ∙ sym (is_position_or_len word_length blank refl (λ x ys. grind arith) xs)
 
--- and goes on at any other byte
-pub word_more : (xs : List ℕ) (i : ℕ) → i < length xs → false ≡ blank (get_or xs i 0)
-    → word_length (drop i xs) ≡ suc (word_length (drop (i + 1) xs))
-unfolding word_length
-word_more xs i l isnt = at_drop_more word_length xs i 0 l ∙ rw (← isnt, word_length)
-
-pub word_all : (xs : List ℕ) (i : ℕ) → length xs ≤ i → word_length (drop i xs) ≡ 0
-unfolding word_length
-word_all xs i l = at_drop_all word_length xs i l
-
--- a blank at the front is passed over
-unblanked_blank : (x : ℕ) (xs : List ℕ) → blank x ≡ true → unblanked (x ∷ xs) ≡ unblanked xs
+-- the text after its blanks begins at the first byte that is none
+pub unblanked_is : (xs : List ℕ) → drop (unwrap_or (position (λ b. not (blank b)) xs) (length xs)) xs ≡ unblanked xs
 unfolding unblanked
-unblanked_blank x xs is = rw (is, unblanked)
-
--- and nothing else is
-unblanked_other : (x : ℕ) (xs : List ℕ) → blank x ≡ false → unblanked (x ∷ xs) ≡ x ∷ xs
-unfolding unblanked
-unblanked_other x xs isnt = rw (isnt, unblanked)
-
-pub unblanked_more : (xs : List ℕ) → 0 < length xs → true ≡ blank (get_or xs 0 0)
-    → unblanked (take (length xs - 1) (drop 1 xs)) ≡ unblanked xs
-unblanked_more xs l is =
-    ap unblanked (take_rest xs 1) ∙ sym (at_drop_more unblanked xs 0 0 l ∙ unblanked_blank (get_or xs 0 0) (drop 1 xs) (sym is))
-
-pub unblanked_stops : (xs : List ℕ) → false ≡ blank (get_or xs 0 0) → unblanked xs ≡ xs
-unfolding unblanked
-unblanked_stops [] isnt = refl
-unblanked_stops (x ∷ xs) isnt = unblanked_other x xs (sym isnt)
-
-pub unblanked_all : (xs : List ℕ) → length xs ≤ 0 → unblanked xs ≡ xs
-unfolding unblanked
-unblanked_all xs l = at_drop_all unblanked xs 0 l ∙ sym (nil_from_length xs (omega arith))
-
--- a text after its blanks does not begin with one
-unblanked_front : (xs t : List ℕ) → t ≡ unblanked xs → 0 < length t → blank (get_or t 0 0) ≡ false
-unfolding unblanked
-unblanked_front xs t e l = rw e (front xs (rw e at l))
+unblanked_is xs = rw first_or_end (dropped xs)
   where
-    front : (xs : List ℕ) → 0 < length (unblanked xs) → blank (get_or (unblanked xs) 0 0) ≡ false
-    front [] l = absurd (omega arith)
-    front (x ∷ xs) l =
-        elim (cases_Bool (blank x)) [
-          | inl is ↦ rw (unblanked_blank x xs is) (front xs (rw (unblanked_blank x xs is) at l))
-          | inr isnt ↦ rw (unblanked_other x xs isnt) isnt
-        ]
+    dropped : (xs : List ℕ) → drop (position_or_len (λ b. not (blank b)) xs) xs ≡ unblanked xs
+    dropped [] = refl
+    dropped (x ∷ xs) = elim (cases_Bool (blank x)) [
+      | inl is ↦ rw (is, unblanked, one-add) (dropped xs)
+      | inr isnt ↦ rw (isnt, unblanked) refl
+    ]
 
--- a blank at the front changes no byte
+-- a text after its blanks does not begin with one; past its end stands a 0, which is none
+pub unblanked_front : (xs : List ℕ) → blank (get_or (unblanked xs) 0 0) ≡ false
+unfolding unblanked
+unblanked_front [] = refl
+unblanked_front (x ∷ xs) =
+    elim (cases_Bool (blank x)) [ inl is ↦ rw (is, unblanked) (unblanked_front xs) | inr isnt ↦ rw (isnt, unblanked) isnt ]
+
+-- blanks at the front change no byte
 hex_blank : (x : ℕ) (xs : List ℕ) → blank x ≡ true → hex_bytes (x ∷ xs) ≡ hex_bytes xs
 unfolding hex_bytes
 hex_blank x [] is = rw (is, hex_bytes)
 hex_blank x (y ∷ ys) is = rw (is, hex_bytes)
 
--- so the blanks at the front may be left out
-hex_unblanked : (xs : List ℕ) → hex_bytes xs ≡ hex_bytes (unblanked xs)
+-- so they may be left out
+pub hex_unblanked : (xs : List ℕ) → hex_bytes (unblanked xs) ≡ hex_bytes xs
 unfolding unblanked
 hex_unblanked [] = refl
 hex_unblanked (x ∷ xs) =
     elim (cases_Bool (blank x)) [
-      | inl is ↦ hex_blank x xs is ∙ hex_unblanked xs ∙ sym (ap hex_bytes (unblanked_blank x xs is))
-      | inr isnt ↦ sym (ap hex_bytes (unblanked_other x xs isnt))
+      | inl is ↦ rw (is, unblanked) (hex_unblanked xs ∙ sym (hex_blank x xs is))
+      | inr isnt ↦ rw (isnt, unblanked) refl
     ]
 
--- of a text that begins with no blank: one byte is too few
-odd : (t : List ℕ) → 0 < length t → length t < 2 → blank (get_or t 0 0) ≡ false → hex_bytes t ≡ None
+-- nothing is read yet
+pub hex_begins : (xs left : List ℕ) → left ≡ unblanked xs → option_map (λ bs. [] ++ bs) (hex_bytes left) ≡ hex_bytes xs
+hex_begins xs left is = option_map_id (hex_bytes left) ∙ ap hex_bytes is ∙ hex_unblanked xs
+
+-- two bytes at the front, the first no blank, stand for one byte before those of the rest, or for none
+pair : (t : List ℕ) (o : Option ℕ) → 2 ≤ length t → blank (get_or t 0 0) ≡ false → o ≡ hex_byte (get_or t 0 0) (get_or t 1 0)
+    → hex_bytes t ≡ elim o [ None ↦ None | Some b ↦ option_map (λ bs. b ∷ bs) (hex_bytes (drop 2 t)) ]
 unfolding hex_bytes
-odd [] some few isnt = absurd (omega arith)
-odd (x ∷ []) some few isnt = rw (isnt, hex_bytes)
-odd (x ∷ y ∷ ys) some few isnt = absurd (omega arith)
+pair [] o two isnt is = absurd (omega arith)
+pair (x ∷ []) o two isnt is = absurd (omega arith)
+pair (x ∷ y ∷ ys) o two isnt is = rw (isnt, hex_bytes, is) refl
 
--- two bytes that are not both digits stand for no byte
-wrong : (t : List ℕ) → 2 ≤ length t → None ≡ hex_byte (get_or t 0 0) (get_or t 1 0)
-    → blank (get_or t 0 0) ≡ false → hex_bytes t ≡ None
+pub hex_wrong : (done t : List ℕ) → 2 ≤ length t → blank (get_or t 0 0) ≡ false → None ≡ hex_byte (get_or t 0 0) (get_or t 1 0)
+    → None ≡ option_map (λ bs. done ++ bs) (hex_bytes t)
+hex_wrong done t two isnt none = sym (ap (option_map (λ bs. done ++ bs)) (pair t None two isnt none))
+
+pub hex_more : (done t left : List ℕ) (b : ℕ) → 2 ≤ length t → blank (get_or t 0 0) ≡ false
+    → Some b ≡ hex_byte (get_or t 0 0) (get_or t 1 0) → left ≡ unblanked (take (length t - 2) (drop 2 t))
+    → option_map (λ bs. (done ++ b ∷ []) ++ bs) (hex_bytes left) ≡ option_map (λ bs. done ++ bs) (hex_bytes t)
+hex_more done t left b two isnt is e =
+    ap (λ xs. option_map (λ bs. (done ++ b ∷ []) ++ bs) (hex_bytes xs)) e
+    ∙ ap (option_map (λ bs. (done ++ b ∷ []) ++ bs)) (hex_unblanked (take (length t - 2) (drop 2 t)) ∙ ap hex_bytes (take_rest t 2))
+    ∙ pushed (hex_bytes (drop 2 t)) ∙ ap (option_map (λ bs. done ++ bs)) (sym (pair t (Some b) two isnt is))
+  where
+    pushed : (o : Option (List ℕ))
+        → option_map (λ bs. (done ++ b ∷ []) ++ bs) o ≡ option_map (λ bs. done ++ bs) (option_map (λ bs. b ∷ bs) o)
+    pushed None = refl
+    pushed (Some bs) = ap Some (append_assoc done (b ∷ []) bs)
+
+-- no byte is left, or one that stands for none
+pub hex_last : (done : Vec ℕ Global) (t : List ℕ) → length t < 2 → blank (get_or t 0 0) ≡ false
+    → option_map vec_items (then_some (length t == 0) done) ≡ option_map (λ bs. vec_items done ++ bs) (hex_bytes t)
 unfolding hex_bytes
-wrong [] two none isnt = absurd (omega arith)
-wrong (x ∷ []) two none isnt = absurd (omega arith)
-wrong (x ∷ y ∷ ys) two none isnt = rw (isnt, hex_bytes, ← none)
-
--- two digits stand for a byte, before those of the rest
-pair : (t : List ℕ) (b : ℕ) → 2 ≤ length t → Some b ≡ hex_byte (get_or t 0 0) (get_or t 1 0)
-    → blank (get_or t 0 0) ≡ false → hex_bytes t ≡ option_map (λ bs. b ∷ bs) (hex_bytes (drop 2 t))
-unfolding hex_bytes
-pair [] b two is isnt = absurd (omega arith)
-pair (x ∷ []) b two is isnt = absurd (omega arith)
-pair (x ∷ y ∷ ys) b two is isnt = rw (isnt, hex_bytes, ← is)
-
-pushed : (done : List ℕ) (b : ℕ) (o : Option (List ℕ))
-    → option_map (λ bs. (done ++ b ∷ []) ++ bs) o ≡ option_map (λ bs. done ++ bs) (option_map (λ bs. b ∷ bs) o)
-pushed done b None = refl
-pushed done b (Some bs) = ap Some (append_assoc done (b ∷ []) bs)
-
--- below, t is the text xs after its blanks
-
-pub hex_none : (xs t : List ℕ) → t ≡ unblanked xs → length t ≤ 0 → hex_bytes xs ≡ Some []
-unfolding hex_bytes
-hex_none xs t e l = hex_unblanked xs ∙ ap hex_bytes (sym e ∙ nil_from_length t (omega arith))
-
-pub hex_odd : (xs t : List ℕ) → t ≡ unblanked xs → 0 < length t → length t < 2 → hex_bytes xs ≡ None
-hex_odd xs t e some few = hex_unblanked xs ∙ ap hex_bytes (sym e) ∙ odd t some few (unblanked_front xs t e some)
-
-pub hex_wrong : (xs t : List ℕ) → t ≡ unblanked xs → 2 ≤ length t
-    → None ≡ hex_byte (get_or t 0 0) (get_or t 1 0) → hex_bytes xs ≡ None
-hex_wrong xs t e two none =
-    hex_unblanked xs ∙ ap hex_bytes (sym e) ∙ wrong t two none (unblanked_front xs t e (omega arith))
-
-pub hex_more : (done xs t : List ℕ) (b : ℕ) → t ≡ unblanked xs → 2 ≤ length t
-    → Some b ≡ hex_byte (get_or t 0 0) (get_or t 1 0)
-    → option_map (λ bs. (done ++ b ∷ []) ++ bs) (hex_bytes (take (length t - 2) (drop 2 t))) ≡ option_map (λ bs. done ++ bs) (hex_bytes xs)
-hex_more done xs t b e two is =
-    let first : hex_bytes xs ≡ option_map (λ bs. b ∷ bs) (hex_bytes (drop 2 t)) =
-    hex_unblanked xs ∙ ap hex_bytes (sym e) ∙ pair t b two is (unblanked_front xs t e (omega arith)) in
-    rw (take_rest t 2) (pushed done b (hex_bytes (drop 2 t)) ∙ ap (option_map (λ bs. done ++ bs)) (sym first))
+hex_last done [] few isnt = ap Some (sym (append-nil (vec_items done)))
+hex_last done (x ∷ []) few isnt = rw (isnt, hex_bytes) refl
+hex_last done (x ∷ y ∷ ys) few isnt = absurd (omega arith)
 
 pub number_some : (xs : List ℕ) → 0 < length xs → decimal_from 0 xs ≡ number_of xs
 number_some [] l = absurd (omega arith)

@@ -2,11 +2,10 @@
 #![tactic(auto)]
 
 ghost use Rattle.std.specs.Prelude.{◌≡◌, ◌<◌, ◌≤◌, length, IfSome, IfOk, vec_items};
-ghost use Rattle.command.specs.Line.{blank, unreturned, word_length, word_of, rest_of, unblanked};
+ghost use Rattle.command.specs.Line.{blank, word_length, word_of, rest_of, unblanked};
 ghost use Rattle.command.specs.Saying.{seen, spoken, command_of};
 ghost use Rattle.command.specs.Values.{decimal_digit, hex_digit, hex_byte, hex_bytes, capped, number_of, number_in};
 ghost use Rattle.std.specs.Option.{option_map};
-ghost use Rattle.std.specs.Str.{bytes_eq};
 
 use std::alloc::{AllocError, Global};
 
@@ -28,7 +27,7 @@ pub enum Command {
 pub fn read_command(heap: Global, line: &[u8]) -> Result<Command, AllocError>
     ensures value { IfOk result (λ c. seen c ≡ command_of line.now) }
 {
-    match without_return(line) {
+    match line.strip_suffix(b"\r").unwrap_or(line) {
         [] | [b'#', ..] => Ok(Command::Nothing),
         text => {
             let (word, rest) = split_word(text);
@@ -41,39 +40,11 @@ pub fn read_command(heap: Global, line: &[u8]) -> Result<Command, AllocError>
 fn read_words(heap: Global, word: &[u8], rest: &[u8]) -> Result<Command, AllocError>
     ensures value { IfOk result (λ c. seen c ≡ spoken word.now rest.now) }
 {
-    if is_same(word, b"hear") {
-        match hex_bytes(heap, rest)? {
-            Some(bytes) => Ok(Command::Hear(bytes)),
-            None => Ok(Command::Unknown),
-        }
-    } else if is_same(word, b"ask") {
-        match hex_bytes(heap, rest)? {
-            Some(bytes) => Ok(Command::Ask(bytes)),
-            None => Ok(Command::Unknown),
-        }
-    } else if is_same(word, b"back") {
-        match number_in(rest) {
-            Some(number) => Ok(Command::Back(number)),
-            None => Ok(Command::Unknown),
-        }
-    } else {
-        Ok(Command::Unknown)
-    }
-}
-
-fn is_same(word: &[u8], name: &[u8]) -> bool
-    ensures value { result ≡ bytes_eq word.now name.now }
-{
-    word == name
-}
-
-// The line without a carriage return at its very end.
-fn without_return(line: &[u8]) -> &[u8]
-    ensures value { result.now ≡ unreturned line.now }
-{
-    match line {
-        [front @ .., b'\r'] => front,
-        _ => line,
+    match word {
+        b"hear" => Ok(hex_bytes(heap, rest)?.map_or(Command::Unknown, Command::Hear)),
+        b"ask" => Ok(hex_bytes(heap, rest)?.map_or(Command::Unknown, Command::Ask)),
+        b"back" => Ok(number_in(rest).map_or(Command::Unknown, Command::Back)),
+        _ => Ok(Command::Unknown),
     }
 }
 
@@ -96,12 +67,7 @@ fn word_length(text: &[u8]) -> usize
     ensures value { result ≡ word_length text.now }
     ensures within { result ≤ length text.now }
 {
-    for (i, b) in text.iter().enumerate() {
-        if is_blank(*b) {
-            return i;
-        }
-    }
-    text.len()
+    text.iter().position(|b| is_blank(*b)).unwrap_or(text.len())
 }
 
 // The text from its first byte on that is no blank.
@@ -109,13 +75,11 @@ fn skip_blanks(text: &[u8]) -> &[u8]
     ensures value { result.now ≡ unblanked text.now }
     ensures within { length result.now ≤ length text.now }
 {
-    let mut left = text;
-    while let [b, rest @ ..] = left
-        && is_blank(*b)
-    {
-        left = rest;
-    }
-    left
+    let blanks = text
+        .iter()
+        .position(|b| !is_blank(*b))
+        .unwrap_or(text.len());
+    &text[blanks..]
 }
 
 // The bytes that a text writes in hexadecimal, with blanks around them.
@@ -123,20 +87,15 @@ fn hex_bytes(heap: Global, text: &[u8]) -> Result<Option<Vec<u8>>, AllocError>
     ensures value { IfOk result (λ o. option_map vec_items o ≡ hex_bytes text.now) }
 {
     let mut bytes = Vec::new(heap);
-    let mut left = text;
-    loop {
-        match skip_blanks(left) {
-            [] => return Ok(Some(bytes)),
-            [high, low, rest @ ..] => match hex_byte(*high, *low) {
-                Some(byte) => {
-                    bytes.push(byte)?;
-                    left = rest;
-                }
-                None => return Ok(None),
-            },
-            [_] => return Ok(None),
-        }
+    let mut left = skip_blanks(text);
+    while let [high, low, rest @ ..] = left {
+        let Some(byte) = hex_byte(*high, *low) else {
+            return Ok(None);
+        };
+        bytes.push(byte)?;
+        left = skip_blanks(rest);
     }
+    Ok(left.is_empty().then_some(bytes))
 }
 
 fn hex_byte(high: u8, low: u8) -> Option<u8>

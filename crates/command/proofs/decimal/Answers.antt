@@ -5,15 +5,15 @@ use Rattle.command.specs.Values.{decimal_from, capped}
 use Rattle.command.proofs.Steps.{number_some, decimal_more, decimal_wrong, decimal_all}
 use Rattle.command.proofs.decimal.Goals as goal
 
+pub loop-b-init : goal.loop-b-init
+loop-b-init c =
+    let some = eqb-false _ 0 (sym c.if-is_empty.ensures) in
+    (ap (option_map capped) (number_some c.args.digits.now (omega (arith, some))), omega arith)
+
 pub returns-in_err-digit : goal.returns-in_err-digit
 returns-in_err-digit c =
-    let digits = c.args.digits.now in
-    let none =
-    decimal_wrong c.loop-b.n digits c.loop-b.b-index c.loop-b-test.true
-    c.in_err-digit.ensures.value in
-    record {
-      value = c.from_residual.ensures ∙ sym (ap (option_map capped) none) ∙ c.loop-b.invariant.0 ∙ ap (option_map capped) (number_some digits (omega arith));
-    }
+    let none = decimal_wrong c.loop-b.n c.args.digits.now c.loop-b.b-index c.loop-b-test.true c.in_err-digit.ensures.value in
+    record { value = c.from_residual.ensures ∙ sym (ap (option_map capped) none) ∙ c.loop-b.invariant.0 }
 
 pub loop-b-preserved : goal.loop-b-preserved
 loop-b-preserved c =
@@ -28,10 +28,6 @@ loop-b-preserved c =
 
 pub returns : goal.returns
 returns c =
-    let digits = c.args.digits.now in
-    let all = decimal_all c.loop-b.n digits c.loop-b.b-index c.loop-b-test.false in
+    let all = decimal_all c.loop-b.n c.args.digits.now c.loop-b.b-index c.loop-b-test.false in
     let fits : c.loop-b.n ≡ capped c.loop-b.n = omega arith in
-    let some = eqb-false _ 0 (sym c.if-is_empty.ensures) in
-    record {
-      value = ap Some fits ∙ sym (ap (option_map capped) all) ∙ c.loop-b.invariant.0 ∙ ap (option_map capped) (number_some digits (omega (arith, some)));
-    }
+    record { value = ap Some fits ∙ sym (ap (option_map capped) all) ∙ c.loop-b.invariant.0 }

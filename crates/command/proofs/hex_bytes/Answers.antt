@@ -1,46 +1,25 @@
--- The blanks at the front of what is left are passed over, and its next two bytes then decide.
-use Rattle.std.proofs.Common.{ℕ, List, ◌++◌, Some, vec_items, sym, ap, ◌∙◌, append-nil, arith, length-drop, ltb-false, ltb-true}
+use Rattle.std.proofs.Common.{vec_items, ap, ◌∙◌, arith, ltb-false, ltb-true}
 use Rattle.std.specs.Option.{option_map}
-use Rattle.std.proofs.lemmas.List.{take_rest}
-use Rattle.command.proofs.Steps.{hex_none, hex_odd, hex_wrong, hex_more}
+use Rattle.std.specs.Bool.{then_some}
+use Rattle.command.proofs.Steps.{unblanked_front, hex_begins, hex_wrong, hex_more, hex_last}
 use Rattle.command.proofs.hex_bytes.Goals as goal
 
-abbrev before : List ℕ → List ℕ → List ℕ
-before done bs = done ++ bs
+pub loop-left-init : goal.loop-left-init
+loop-left-init c = (
+  rw c.new-bytes.ensures.items (hex_begins c.args.text.now _ c.skip_blanks-left.ensures.value),
+  rw c.skip_blanks-left.ensures.value (unblanked_front c.args.text.now),
+)
 
-pub returns-in-empty : goal.returns-in-empty
-returns-in-empty c =
-    let done = vec_items c.loop-bytes.bytes in
-    let t = c.skip_blanks.result.now in
-    let none = hex_none c.loop-bytes.left.now t c.skip_blanks.ensures.value (omega (arith, ltb-true)) in
-    record { value = ap Some (sym (append-nil done)) ∙ sym (ap (option_map (before done)) none) ∙ c.loop-bytes.invariant }
+pub returns-in_default-hex_byte : goal.returns-in_default-hex_byte
+returns-in_default-hex_byte c =
+    record { value = hex_wrong (vec_items c.loop-left.bytes) c.loop-left.left.now (omega (arith, ltb-false)) c.loop-left.invariant.1 c.in_default-hex_byte.ensures.value ∙ c.loop-left.invariant.0 }
 
-pub returns-in-len1 : goal.returns-in-len1
-returns-in-len1 c =
-    let done = vec_items c.loop-bytes.bytes in
-    let t = c.skip_blanks.result.now in
-    let none =
-    hex_odd c.loop-bytes.left.now t c.skip_blanks.ensures.value
-    (omega (arith, ltb-false)) (omega (arith, ltb-true)) in
-    record { value = sym (ap (option_map (before done)) none) ∙ c.loop-bytes.invariant }
+pub loop-left-preserved : goal.loop-left-preserved
+loop-left-preserved c = (
+  rw c.in_ok-push.ensures.items (hex_more (vec_items c.loop-left.bytes) c.loop-left.left.now _ c.in-Some.byte (omega (arith, ltb-false)) c.loop-left.invariant.1 c.in-Some.ensures.value c.skip_blanks-left-in-len2-up.ensures.value ∙ c.loop-left.invariant.0),
+  rw c.skip_blanks-left-in-len2-up.ensures.value (unblanked_front _),
+)
 
-pub returns-in-None : goal.returns-in-None
-returns-in-None c =
-    let done = vec_items c.loop-bytes.bytes in
-    let t = c.skip_blanks.result.now in
-    let none =
-    hex_wrong c.loop-bytes.left.now t c.skip_blanks.ensures.value
-    (omega (arith, ltb-false)) c.in-None.ensures.value in
-    record { value = sym (ap (option_map (before done)) none) ∙ c.loop-bytes.invariant }
-
-pub loop-bytes-preserved : goal.loop-bytes-preserved
-loop-bytes-preserved c =
-    let done = vec_items c.loop-bytes.bytes in
-    let t = c.skip_blanks.result.now in
-    let more =
-    hex_more done c.loop-bytes.left.now t c.in-Some.byte c.skip_blanks.ensures.value
-    (omega (arith, ltb-false)) c.in-Some.ensures.value in
-    rw c.in_ok-push-in-Some.ensures.items (more ∙ c.loop-bytes.invariant)
-
-pub loop-bytes-smaller : goal.loop-bytes-smaller
-loop-bytes-smaller c = simp (take_rest, length-drop) (omega (arith, ltb-false, c.skip_blanks.ensures.within))
+pub returns : goal.returns
+returns c =
+    record { value = ap (option_map vec_items) (c.then_some.ensures ∙ ap (λ b. then_some b c.loop-left.bytes) c.is_empty.ensures) ∙ hex_last c.loop-left.bytes c.loop-left.left.now (omega (arith, ltb-true)) c.loop-left.invariant.1 ∙ c.loop-left.invariant.0 }

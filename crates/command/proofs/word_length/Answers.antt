@@ -1,18 +1,12 @@
-use Rattle.std.proofs.Common.{arith}
-use Rattle.command.proofs.Steps.{word_ends, word_more, word_all}
+use Rattle.std.proofs.Common.{◌≡◌, length, position, unwrap_or, rules, tests, ap, ◌∙◌}
+use Rattle.std.proofs.lemmas.Iterator.{YieldsList-from_slice}
+use Rattle.std.proofs.lemmas.Iterator.Search.{position_from_yields_List}
+use Rattle.command.specs.Line.{blank}
+use Rattle.command.proofs.Steps.{word_length_is}
 use Rattle.command.proofs.word_length.Goals as goal
 
-pub returns-then-is_blank : goal.returns-then-is_blank
-returns-then-is_blank c =
-    let stop = word_ends c.args.text.now c.loop-i.i c.loop-i-test.true c.if-is_blank.ensures.value in
-    record { value = omega (arith, c.loop-i.invariant); within = omega arith }
-
-pub loop-i-preserved : goal.loop-i-preserved
-loop-i-preserved c =
-    let more = word_more c.args.text.now c.loop-i.i c.loop-i-test.true c.if-is_blank.ensures.value in
-    omega (arith, c.loop-i.invariant)
-
-pub returns : goal.returns
-returns c =
-    let stop = word_all c.args.text.now c.loop-i.i c.loop-i-test.false in
-    record { value = omega (arith, c.loop-i.invariant); within = omega arith }
+pub returns-clause-value : goal.returns-clause-value
+returns-clause-value c =
+    let text = c.args.text.now in
+    let first : c.position.result ≡ position blank text = position_from_yields_List blank _ _ _ c.position.ensures.ran (YieldsList-from_slice text cc) (λ x b q k. search (rules, tests)) in
+    c.unwrap_or.ensures ∙ ap (λ o. unwrap_or o (length text)) first ∙ word_length_is text
