@@ -1,10 +1,11 @@
 -- What is known once a message has been taken apart and its parts kept. Assumes nothing.
-use Rattle.std.proofs.Common.{◌≡◌, ℕ, ◌+◌, Bool, true, false, ◌&&◌, leb, ◌⊎◌, List, [], ◌∷◌, ◌++◌, Some, Option, sym, ap, ◌∙◌, subst, inl, inr, arith, le-leb, leb-true}
+use Rattle.std.proofs.Common.{◌≡◌, ℕ, ◌+◌, Bool, true, false, ◌⊎◌, List, [], ◌∷◌, ◌++◌, Some, Option, sym, ap, ◌∙◌, subst, inl, inr, arith}
 use borrow.Author.Tests.{clash}
 use Rattle.std.specs.Str.{bytes_eq}
 use Rattle.std.proofs.lemmas.Slice.Eq.{bytes_eq-Decides}
-use Rattle.std.proofs.lemmas.Bool.{or_cases, or_left, or_right, and_parts, and_from}
-use Rattle.message.specs.Trees.{Tree, atom, variable, joined, locked, proper, write, size, reads, closed}
+use Rattle.std.proofs.lemmas.Bool.Decides.{nat_tests}
+use Rattle.std.proofs.lemmas.Bool.{or_cases, or_left, or_right}
+use Rattle.message.specs.Trees.{Tree, atom, variable, joined, locked, proper, write, size, reads}
 use Rattle.message.proofs.OneReading.{reads_write}
 use Rattle.attacker.specs.Derivation.{stands, opens, parts}
 use Rattle.attacker.specs.Known.{fitting, composites, ClosedForm}
@@ -14,15 +15,10 @@ use Rattle.attacker.specs.Standing.{stands_first, stands_later, stands_cases, st
 
 -- the test for a form with no variable
 pub form_fits : (t : Tree) → ClosedForm t → fitting t ≡ true
-form_fits t form =
-    and_from (proper t) (leb (size t) 24 && closed (write t)) form.fits.sound
-    (and_from (leb (size t) 24) (closed (write t)) (le-leb (size t) 24 form.fits.short) form.fixed)
+form_fits t form = let sound = form.fits.sound in let fixed = form.fixed in grind (arith, nat_tests)
 
 pub fits_form : (t : Tree) → fitting t ≡ true → ClosedForm t
-fits_form t e =
-    let p = and_parts (proper t) (leb (size t) 24 && closed (write t)) e in
-    let q = and_parts (leb (size t) 24) (closed (write t)) p.1 in
-    record { fits = record { sound = p.0; short = leb-true (size t) 24 q.0 }; fixed = q.1 }
+fits_form t e = record { fits = record { sound = grind (arith, nat_tests); short = grind (arith, nat_tests) }; fixed = grind (arith, nat_tests) }
 
 -- two forms that keep the rules and are written alike are the same
 pub same_written : (t u : Tree) → proper t ≡ true → proper u ≡ true → write t ≡ write u → t ≡ u
@@ -34,20 +30,15 @@ same_written t u p q e =
 -- membership in two lists together
 pub has_before : (xs ys : List (List ℕ)) (m : List ℕ) → has xs m ≡ true → has (xs ++ ys) m ≡ true
 has_before [] ys m h = absurd (clash h)
-has_before (x ∷ xs) ys m h =
-    elim (or_cases (bytes_eq x m) (has xs m) h) [ inl e ↦ or_left (bytes_eq x m) (has (xs ++ ys) m) e | inr e ↦ or_right (bytes_eq x m) (has (xs ++ ys) m) (has_before xs ys m e) ]
+has_before (x ∷ xs) ys m h = grind (arith, nat_tests, has_before xs ys m)
 
 pub has_behind : (xs ys : List (List ℕ)) (m : List ℕ) → has ys m ≡ true → has (xs ++ ys) m ≡ true
 has_behind [] ys m h = h
-has_behind (x ∷ xs) ys m h = or_right (bytes_eq x m) (has (xs ++ ys) m) (has_behind xs ys m h)
+has_behind (x ∷ xs) ys m h = grind (arith, nat_tests, has_behind xs ys m h)
 
 pub has_either : (xs ys : List (List ℕ)) (m : List ℕ) → has (xs ++ ys) m ≡ true → (has xs m ≡ true) ⊎ (has ys m ≡ true)
 has_either [] ys m h = inr h
-has_either (x ∷ xs) ys m h =
-    elim (or_cases (bytes_eq x m) (has (xs ++ ys) m) h) [
-      | inl e ↦ inl (or_left (bytes_eq x m) (has xs m) e)
-      | inr e ↦ elim (has_either xs ys m e) [ inl f ↦ inl (or_right (bytes_eq x m) (has xs m) f) | inr f ↦ inr f ]
-    ]
+has_either (x ∷ xs) ys m h = grind (arith, nat_tests, has_either xs ys m)
 
 -- every tree of the list is a form with no variable
 abbrev pub AllForms : List Tree → Type 0
@@ -82,32 +73,31 @@ Composite (locked k x) = Unit {0}
 -- the texts kept of a list have those of its joined and locked trees
 pub stands_kept : (ts : List Tree) (u : Tree) → Composite u → stands ts u ≡ true → has (composites ts) (write u) ≡ true
 stands_kept [] u c h = stands_none u h
-stands_kept (t ∷ ts) u c h = elim (stands_cases t ts u h) [ inl e ↦ here t e | inr e ↦ later t (stands_kept ts u c e) ]
-  where
-    here : (t : Tree) → t ≡ u → has (composites (t ∷ ts)) (write u) ≡ true
-    here (atom b) e = absurd (subst Composite (sym e) c)
-    here (variable b) e = absurd (subst Composite (sym e) c)
-    here (joined x y) e = or_left (bytes_eq (write (joined x y)) (write u)) (has (composites ts) (write u)) ((bytes_eq-Decides (write (joined x y)) (write u)).1 (ap write e))
-    here (locked k x) e = or_left (bytes_eq (write (locked k x)) (write u)) (has (composites ts) (write u)) ((bytes_eq-Decides (write (locked k x)) (write u)).1 (ap write e))
+stands_kept (atom b ∷ ts) u c h = elim (stands_cases (atom b) ts u h) [ inl e ↦ absurd (subst Composite (sym e) c) | inr e ↦ stands_kept ts u c e ]
+stands_kept (variable b ∷ ts) u c h = elim (stands_cases (variable b) ts u h) [ inl e ↦ absurd (subst Composite (sym e) c) | inr e ↦ stands_kept ts u c e ]
+stands_kept (joined x y ∷ ts) u c h =
+    elim (stands_cases (joined x y) ts u h) [ inl e ↦ or_left _ (has (composites ts) (write u)) ((bytes_eq-Decides (write (joined x y)) (write u)).1 (ap write e)) | inr e ↦ or_right (bytes_eq (write (joined x y)) (write u)) _ (stands_kept ts u c e) ]
+stands_kept (locked k x ∷ ts) u c h =
+    elim (stands_cases (locked k x) ts u h) [ inl e ↦ or_left _ (has (composites ts) (write u)) ((bytes_eq-Decides (write (locked k x)) (write u)).1 (ap write e)) | inr e ↦ or_right (bytes_eq (write (locked k x)) (write u)) _ (stands_kept ts u c e) ]
 
-    later : (t : Tree) → has (composites ts) (write u) ≡ true → has (composites (t ∷ ts)) (write u) ≡ true
-    later (atom b) f = f
-    later (variable b) f = f
-    later (joined x y) f = or_right (bytes_eq (write (joined x y)) (write u)) (has (composites ts) (write u)) f
-    later (locked k x) f = or_right (bytes_eq (write (locked k x)) (write u)) (has (composites ts) (write u)) f
+-- and of forms with no variable only those
+written_first : (t : Tree) (ts : List Tree) (u : Tree) → AllForms (t ∷ ts) → proper u ≡ true → bytes_eq (write t) (write u) ≡ true → stands (t ∷ ts) u ≡ true
+written_first t ts u forms p e = subst (λ v. stands (t ∷ ts) v ≡ true) (same_written t u (forms t (stands_first t ts)).fits.sound p ((bytes_eq-Decides (write t) (write u)).0 e)) (stands_first t ts)
 
--- and of a form with no variable only those
+rest_forms : (t : Tree) (ts : List Tree) → AllForms (t ∷ ts) → AllForms ts
+rest_forms t ts forms v h = forms v (stands_later t ts v h)
+
 pub kept_stands : (ts : List Tree) → AllForms ts → (u : Tree) → proper u ≡ true → has (composites ts) (write u) ≡ true → stands ts u ≡ true
 kept_stands [] forms u p h = absurd (clash h)
-kept_stands (t ∷ ts) forms u p h = go t (λ v i. forms v i) (λ f. kept_stands ts (λ v i. forms v (stands_later t ts v i)) u p f) h
-  where
-    same : (t : Tree) → ClosedForm t → bytes_eq (write t) (write u) ≡ true → stands (t ∷ ts) u ≡ true
-    same t form e = subst (λ v. stands (t ∷ ts) v ≡ true) (same_written t u form.fits.sound p ((bytes_eq-Decides (write t) (write u)).0 e)) (stands_first t ts)
-
-    go : (t : Tree) → AllForms (t ∷ ts) → (has (composites ts) (write u) ≡ true → stands ts u ≡ true) → has (composites (t ∷ ts)) (write u) ≡ true → stands (t ∷ ts) u ≡ true
-    go (atom b) all ih f = stands_later (atom b) ts u (ih f)
-    go (variable b) all ih f = stands_later (variable b) ts u (ih f)
-    go (joined x y) all ih f =
-        elim (or_cases (bytes_eq (write (joined x y)) (write u)) (has (composites ts) (write u)) f) [ inl e ↦ same (joined x y) (all (joined x y) (stands_first (joined x y) ts)) e | inr e ↦ stands_later (joined x y) ts u (ih e) ]
-    go (locked k x) all ih f =
-        elim (or_cases (bytes_eq (write (locked k x)) (write u)) (has (composites ts) (write u)) f) [ inl e ↦ same (locked k x) (all (locked k x) (stands_first (locked k x) ts)) e | inr e ↦ stands_later (locked k x) ts u (ih e) ]
+kept_stands (atom b ∷ ts) forms u p h = stands_later (atom b) ts u (kept_stands ts (rest_forms (atom b) ts forms) u p h)
+kept_stands (variable b ∷ ts) forms u p h = stands_later (variable b) ts u (kept_stands ts (rest_forms (variable b) ts forms) u p h)
+kept_stands (joined x y ∷ ts) forms u p h =
+    elim (or_cases (bytes_eq (write (joined x y)) (write u)) (has (composites ts) (write u)) h) [
+      | inl e ↦ written_first (joined x y) ts u forms p e
+      | inr e ↦ stands_later (joined x y) ts u (kept_stands ts (rest_forms (joined x y) ts forms) u p e)
+    ]
+kept_stands (locked k x ∷ ts) forms u p h =
+    elim (or_cases (bytes_eq (write (locked k x)) (write u)) (has (composites ts) (write u)) h) [
+      | inl e ↦ written_first (locked k x) ts u forms p e
+      | inr e ↦ stands_later (locked k x) ts u (kept_stands ts (rest_forms (locked k x) ts forms) u p e)
+    ]

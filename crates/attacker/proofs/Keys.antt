@@ -1,34 +1,50 @@
--- Sets that have the same keys open the same locks. Assumes nothing.
-use Rattle.std.proofs.Common.{◌≡◌, ℕ, ◌+◌, ◌-◌, ◌/◌, ◌%◌, ◌^◌, ◌<◌, ◌≤◌, Bool, false, cond, ◌&&◌, eqb, ltb, List, [], ◌∷◌, Some, None, Option, sym, refl, ap, ◌∙◌, arith}
-use Rattle.std.proofs.lemmas.Nat.{field_of, shr-shr, mod-pow-add, mod-mul-add, mod_below}
+-- Sets that have the same keys open the same locks, and a set that has the keys of another has no smaller key bits. Assumes
+-- nothing.
+use Rattle.std.proofs.Common.{◌≡◌, ℕ, ◌+◌, ◌-◌, ◌/◌, ◌%◌, ◌^◌, ◌<◌, ◌≤◌, min, Bool, false, cond, ◌&&◌, eqb, ltb, List, [], ◌∷◌, Some, None, Option, sym, refl, ap, ◌∙◌, arith}
+use lib.Bits.{bit_and}
+use Rattle.std.proofs.lemmas.Bool.Decides.{nat_tests}
+use Rattle.std.proofs.lemmas.Nat.{shr-shr, and_mask, and_le_r, mod_below}
+use Rattle.std.proofs.lemmas.Nat.Bits.{bit_at_and, bit_at_ones, bit_at-lt, same_from_bits_below}
+use Rattle.std.specs.Int.{bit_at}
 use Rattle.message.specs.Bytes.{inverse_of}
 use Rattle.attacker.specs.declared.atoms.Atoms.{Atoms}
 use Rattle.attacker.specs.Atoms.{within, key_bits}
 use Rattle.attacker.specs.Derivation.{opens}
-use Rattle.attacker.specs.Known.{atom_known, signs, weight, weights}
-
--- the lowest bit of what is left of a number cut at j + 1 bits
-low_bit : (n j : ℕ) → n % 2 ^ (j + 1) % 2 ≡ n % 2
-low_bit n j = ap (λ x. x % 2) (mod-pow-add n j 1) ∙ mod-mul-add (n / 2 % 2 ^ j) 2 (n % 2) (mod_below n 2 (omega arith))
+use Rattle.attacker.specs.Known.{atom_known, signs, weight, weights, Inside}
 
 -- bit c of the key bits is bit 50 + c of the set
-key_bit : (n c : ℕ) → c < 32 → n / 2 ^ 0x50 % 2 ^ 32 / 2 ^ c % 2 ≡ n / 2 ^ (0x50 + c) % 2
-key_bit n c h =
-    let m = n / 2 ^ 0x50 in
-    let whole : 32 ≡ (31 - c + 1) + c = omega arith in
-    ap (λ w. m % 2 ^ w / 2 ^ c % 2) whole
-    ∙ ap (λ x. x % 2) (field_of m (31 - c + 1) c)
-    ∙ low_bit (m / 2 ^ c) (31 - c)
-    ∙ ap (λ x. x % 2) (shr-shr n 0x50 c)
+key_bit : (s : Atoms) (c : ℕ) → c < 32 → bit_at (key_bits s) c ≡ bit_at s.bits (0x50 + c)
+unfolding key_bits
+key_bit s c h =
+    let m = s.bits / 2 ^ 0x50 in
+    let masked : bit_at (m % 2 ^ 32) c ≡ min (bit_at m c) (bit_at (2 ^ 32 - 1) c) = ap (λ n. bit_at n c) (sym (and_mask m 32)) ∙ bit_at_and m (2 ^ 32 - 1) c in
+    let one : bit_at (2 ^ 32 - 1) c ≡ 1 = bit_at_ones 32 c h in
+    let low = bit_at-lt m c in
+    let kept : bit_at (m % 2 ^ 32) c ≡ bit_at m c = omega arith in
+    kept ∙ ap (λ n. n % 2) (shr-shr s.bits 0x50 c)
 
 pub key_same : (s u : Atoms) → key_bits s ≡ key_bits u → (j : ℕ) → 0x50 ≤ j → j < 0x70 → within s j ≡ within u j
-unfolding within key_bits
+unfolding within
 key_same s u e j low high =
     let c = j - 0x50 in
     let is : 0x50 + c ≡ j = omega arith in
-    let bit : s.bits / 2 ^ j % 2 ≡ u.bits / 2 ^ j % 2 =
-    ap (λ b. s.bits / 2 ^ b % 2) (sym is) ∙ sym (key_bit s.bits c (omega arith)) ∙ ap (λ k. k / 2 ^ c % 2) e ∙ key_bit u.bits c (omega arith) ∙ ap (λ b. u.bits / 2 ^ b % 2) is in
-    ap (λ b. ltb j 128 && eqb b 1) bit
+    let bit : bit_at s.bits (0x50 + c) ≡ bit_at u.bits (0x50 + c) = sym (key_bit s c (omega arith)) ∙ ap (λ k. bit_at k c) e ∙ key_bit u c (omega arith) in
+    ap (λ b. ltb j 128 && eqb b 1) (ap (bit_at s.bits) (sym is) ∙ bit ∙ ap (bit_at u.bits) is)
+
+pub key_few : (s : Atoms) → key_bits s < 2 ^ 32
+unfolding key_bits
+key_few s = mod_below (s.bits / 2 ^ 0x50) (2 ^ 32) (omega arith)
+
+-- the number of the key bits is no smaller where no atom is missing
+pub key_grows : (s u : Atoms) → Inside s u → key_bits s ≤ key_bits u
+unfolding within
+key_grows s u inside = omega (arith, and_le_r (key_bits s) (key_bits u), same)
+  where
+    bit : (c : ℕ) → c < 32 → bit_at (bit_and (key_bits s) (key_bits u)) c ≡ bit_at (key_bits s) c
+    bit c h = grind (arith, nat_tests, bit_at_and (key_bits s) (key_bits u) c, key_bit s c h, key_bit u c h, inside (0x50 + c), bit_at-lt s.bits (0x50 + c), bit_at-lt u.bits (0x50 + c))
+
+    same : bit_and (key_bits s) (key_bits u) ≡ key_bits s
+    same = same_from_bits_below 32 (bit_and (key_bits s) (key_bits u)) (key_bits s) (omega (arith, and_le_r (key_bits s) (key_bits u), key_few u)) (key_few s) bit
 
 -- an inverse is a key
 pub inverse_key : (k j : ℕ) → inverse_of k ≡ Some j → (0x50 ≤ j) × (j < 0x70)

@@ -1,7 +1,6 @@
 pub mod Absorbing
-pub mod Answering
 pub mod Bitset
-pub mod Signs
+pub mod Shaping
 pub mod Kept
 pub mod Stepping
 pub mod Weighing

@@ -1,57 +1,15 @@
--- The marks of the full attacker, as it starts, hears one message more, and falls back. Assumes nothing.
-use Rattle.std.proofs.Common.{◌≡◌, ℕ, zero, suc, ◌+◌, ◌*◌, ◌<◌, ◌≤◌, true, false, List, [], ◌∷◌, ◌++◌, length, get_or, take, sym, ◌∙◌, subst, ⊎_elim, arith}
-use borrow.Author.Tests.{clash}
-use Rattle.std.proofs.lemmas.List.{take_all, take-take, take-append-le, get_or_append_left, get_or_push, get_or-take, length_push, length-take-le}
-use Rattle.std.proofs.lemmas.Bool.{cases_lt, and_parts}
+-- What the full attacker remembers, as it hears one message more, and falls back. Assumes nothing.
+use Rattle.std.proofs.Common.{◌≡◌, ℕ, zero, suc, ◌+◌, ◌*◌, ◌<◌, ◌≤◌, min, List, [], ◌∷◌, ◌++◌, length, get_or, take, sym, refl, ap, ◌∙◌, subst, ⊎_elim, arith}
+use Rattle.std.proofs.lemmas.List.{take_all, take-take, take-append-le, get_or_past, get_or-map, length-map, length-append, length_push, length-take, map_push, take-map}
+use Rattle.std.proofs.lemmas.Bool.{cases_lt}
+use Rattle.message.specs.Messages.{message_text}
 use Rattle.message.specs.Trees.{Tree, atom, variable, joined, locked, write, size}
-use Rattle.attacker.specs.declared.atoms.Atoms.{Atoms}
+use Rattle.attacker.specs.declared.full.Heard.{Heard}
 use Rattle.attacker.specs.declared.mark.Mark.{Mark}
-use Rattle.attacker.specs.Atoms.{within}
-use Rattle.attacker.specs.Derivation.{Knowledge}
-use Rattle.attacker.specs.Known.{fitting, known_by, signs, weights, ClosedForm}
-use Rattle.attacker.specs.Marks.{no_mark, AllKnown, Roomy, Rising}
+use Rattle.attacker.specs.Known.{State, signs, ClosedForm}
+use Rattle.attacker.specs.Marks.{heard_texts, marks, mark_of, mark_after, at_mark, Knows, Remembers}
 use Rattle.attacker.proofs.Absorbing.{atom_small, no_variable, left_form, right_form, inner_form}
-use Rattle.attacker.proofs.Signs.{signs_append}
-use Rattle.attacker.proofs.Weighing.{small_sign, lock_sign}
-
--- nothing is known where nothing is heard
-nothing_known : (none : Atoms) → ((b : ℕ) → within none b ≡ false) → (t : Tree) → known_by none [] t ≡ true → ⊥
-nothing_known none empty (atom b) h = clash (sym (empty b) ∙ h)
-nothing_known none empty (variable b) h = clash h
-nothing_known none empty (joined x y) h = clash (and_parts (fitting (joined x y)) false h).1
-nothing_known none empty (locked k x) h = clash (and_parts (fitting (locked k x)) false h).1
-
-pub knows_nothing : (none : Atoms) → ((b : ℕ) → within none b ≡ false) → Knowledge [] (known_by none [])
-knows_nothing none empty = record {
-  justified = λ t h. absurd (nothing_known none empty t h);
-  hears = λ m t h e. absurd (clash h);
-  parts_left = λ x y h. absurd (nothing_known none empty (joined x y) h);
-  parts_right = λ x y h. absurd (nothing_known none empty (joined x y) h);
-  unlocks = λ k j x inv h op. absurd (nothing_known none empty (locked k x) h);
-}
-
--- the one mark at the start
-module _ (none : Atoms) (empty : (b : ℕ) → within none b ≡ false) where
-  pub known_first : (heard kept : List (List ℕ)) (marks : List Mark) → marks ≡ record { atoms = none; parts = 0 } ∷ [] → AllKnown heard kept marks
-  known_first heard kept marks is = subst (AllKnown heard kept) (sym is) at
-    where
-      at : AllKnown heard kept (record { atoms = none; parts = 0 } ∷ [])
-      at zero h = knows_nothing none empty
-      at (suc n) h = absurd (omega arith)
-
-  pub roomy_first : (kept : List (List ℕ)) (marks : List Mark) → marks ≡ record { atoms = none; parts = 0 } ∷ [] → Roomy kept marks
-  roomy_first kept marks is = subst (Roomy kept) (sym is) at
-    where
-      at : Roomy kept (record { atoms = none; parts = 0 } ∷ [])
-      at zero h = omega arith
-      at (suc n) h = absurd (omega arith)
-
-  pub rising_first : (marks : List Mark) → marks ≡ record { atoms = none; parts = 0 } ∷ [] → Rising marks
-  rising_first marks is = subst Rising (sym is) at
-    where
-      at : Rising (record { atoms = none; parts = 0 } ∷ [])
-      at m zero le h = let same : m ≡ 0 = omega arith in subst (λ i. (get_or (record { atoms = none; parts = 0 } ∷ []) i no_mark).parts ≤ 0) (sym same) (omega arith)
-      at m (suc n) le h = absurd (omega arith)
+use Rattle.attacker.proofs.Weighing.{signs_append, small_sign, lock_sign}
 
 -- a message of n bytes has fewer than n / 2 joined and locked parts
 half_signs : (t : Tree) → ClosedForm t → 2 * signs (write t) + 1 ≤ size t
@@ -63,97 +21,128 @@ half_signs (locked k x) form = omega (arith, lock_sign k x form, half_signs x (i
 pub few_signs : (t : Tree) → ClosedForm t → signs (write t) ≤ 11
 few_signs t form = omega (arith, half_signs t form, form.fits.short)
 
--- one mark more
-module _ (heard kept fresh : List (List ℕ)) (m : List ℕ) (marks : List Mark) (mark : Mark) (count : ℕ)
-    (many : length marks ≡ count + 1) (all : length heard ≡ count) (rising : Rising marks) (last : (get_or marks count no_mark).parts ≡ length kept) where
-  old : (n : ℕ) → n < count + 1 → get_or (marks ++ mark ∷ []) n no_mark ≡ get_or marks n no_mark
-  old n h = get_or_append_left marks (mark ∷ []) no_mark n (omega arith)
+-- as many messages as records
+pub length_heard : (heard : List Heard) → length (heard_texts heard) ≡ length heard
+length_heard heard = length-map heard (λ (h : Heard). message_text h.message)
 
-  new : get_or (marks ++ mark ∷ []) (count + 1) no_mark ≡ mark
-  new = get_or_push marks mark no_mark (count + 1) many
+length_marks : (heard : List Heard) → length (marks heard) ≡ length heard
+length_marks heard = length-map heard (λ (h : Heard). h.before)
 
-  -- how many parts an old mark counts
-  few : (n : ℕ) → n < count + 1 → (get_or marks n no_mark).parts ≤ length kept
-  few n h = omega (arith, rising n count (omega arith) (omega arith), last)
+-- at the end of a list, whether it stands there or is what stands past the end
+at_push : (xs : List Mark) (y d : Mark) (n : ℕ) → n ≤ length xs → get_or (xs ++ y ∷ []) n d ≡ get_or xs n y
+at_push [] y d zero h = refl
+at_push [] y d (suc n) h = absurd (omega arith)
+at_push (x ∷ xs) y d zero h = refl
+at_push (x ∷ xs) y d (suc n) h = at_push xs y d n (omega arith)
 
-  old_parts : (n : ℕ) → n < count + 1 → take (get_or marks n no_mark).parts (kept ++ fresh) ≡ take (get_or marks n no_mark).parts kept
-  old_parts n h = take-append-le (get_or marks n no_mark).parts kept fresh (few n h)
+-- in the first n of a list, what stands at n being what stands past the end
+at_front : (n : ℕ) (xs : List Mark) (d : Mark) (i : ℕ) → get_or (take n xs) i (get_or xs n d) ≡ get_or xs (min i n) d
+at_front n xs d i =
+    ⊎_elim (λ low. let at : min i n ≡ i = omega arith in below n xs i low ∙ ap (λ j. get_or xs j d) (sym at))
+    (λ high. let at : min i n ≡ n = omega arith in get_or_past (take n xs) i (get_or xs n d) (omega (arith, length-take n xs)) ∙ ap (λ j. get_or xs j d) (sym at)) (cases_lt i n)
+  where
+    below : (n : ℕ) (xs : List Mark) (i : ℕ) → i < n → get_or (take n xs) i (get_or xs n d) ≡ get_or xs i d
+    below zero xs i h = absurd (omega arith)
+    below (suc n) [] i h = refl
+    below (suc n) (x ∷ xs) zero h = refl
+    below (suc n) (x ∷ xs) (suc i) h = below n xs i (omega arith)
 
-  old_heard : (n : ℕ) → n < count + 1 → take n (heard ++ m ∷ []) ≡ take n heard
-  old_heard n h = take-append-le n heard (m ∷ []) (omega arith)
+take_front : (n : ℕ) (xs : List (List ℕ)) (i : ℕ) → take i (take n xs) ≡ take (min i n) xs
+take_front n xs i =
+    ⊎_elim (λ low. let at : min i n ≡ i = omega arith in take-take i n xs (omega arith) ∙ ap (λ j. take j xs) (sym at))
+    (λ high. let at : min i n ≡ n = omega arith in take_all i (take n xs) (omega (arith, length-take n xs)) ∙ ap (λ j. take j xs) (sym at)) (cases_lt i n)
 
-  -- each count is an old one or the new one
-  which : (P : ℕ → Type 0) (n : ℕ) → n < length (marks ++ mark ∷ []) → (n < count + 1 → P n) → P (count + 1) → P n
-  which P n h below at =
-      ⊎_elim below (λ e. let same : n ≡ count + 1 = omega (arith, length_push marks mark) in subst P (sym same) at) (cases_lt n (count + 1))
+-- the same known in other words
+same_knows : {heard heard' : List (List ℕ)} {known known' : State} → heard' ≡ heard → known' ≡ known → Knows heard known → Knows heard' known'
+same_knows same_heard same_known = subst (λ (s : List (List ℕ) × State). Knows s.0 s.1) (λ i. (sym same_heard i, sym same_known i))
 
-  module _ (full : mark.parts ≡ length (kept ++ fresh)) where
-    all_parts_lem : take mark.parts (kept ++ fresh) ≡ kept ++ fresh
-    all_parts_lem = take_all mark.parts (kept ++ fresh) (omega arith)
+same_state : (mark mark' : Mark) (known known' : State) → mark' ≡ mark → take mark.parts known'.kept ≡ take mark.parts known.kept → at_mark mark' known' ≡ at_mark mark known
+same_state mark mark' known known' same_mark same_kept = ap (λ m. at_mark m known') same_mark ∙ (λ i. record { atoms = mark.atoms; kept = same_kept i })
 
-    pub known_more : AllKnown heard kept marks → Knowledge (heard ++ m ∷ []) (known_by mark.atoms (kept ++ fresh)) → AllKnown (heard ++ m ∷ []) (kept ++ fresh) (marks ++ mark ∷ [])
-    known_more before here n h =
-        which (λ n. Knowledge (take n (heard ++ m ∷ [])) (known_by (get_or (marks ++ mark ∷ []) n no_mark).atoms (take (get_or (marks ++ mark ∷ []) n no_mark).parts (kept ++ fresh)))) n h
-        (λ below. subst (λ r. Knowledge (take n (heard ++ m ∷ [])) (known_by r.atoms (take r.parts (kept ++ fresh)))) (sym (old n below))
-        (subst (λ l. Knowledge l (known_by (get_or marks n no_mark).atoms (take (get_or marks n no_mark).parts (kept ++ fresh)))) (sym (old_heard n below))
-        (subst (λ l. Knowledge (take n heard) (known_by (get_or marks n no_mark).atoms l)) (sym (old_parts n below)) (before n (omega arith)))))
-        (subst (λ r. Knowledge (take (count + 1) (heard ++ m ∷ [])) (known_by r.atoms (take r.parts (kept ++ fresh)))) (sym new)
-        (subst (λ l. Knowledge l (known_by mark.atoms (take mark.parts (kept ++ fresh)))) (sym (take_all (count + 1) (heard ++ m ∷ []) (omega (arith, length_push heard m))))
-        (subst (λ l. Knowledge (heard ++ m ∷ []) (known_by mark.atoms l)) (sym all_parts_lem) here)))
+-- as much as is known now is all of it
+all_known : (known : State) → at_mark (mark_of known) known ≡ known
+all_known known = λ i. record { atoms = known.atoms; kept = take_all (length known.kept) known.kept (omega arith) i }
 
-    pub roomy_more : Roomy kept marks → weights mark.atoms (kept ++ fresh) ≤ 11 * (count + 1) → Roomy (kept ++ fresh) (marks ++ mark ∷ [])
-    roomy_more before here n h =
-        which (λ n. weights (get_or (marks ++ mark ∷ []) n no_mark).atoms (take (get_or (marks ++ mark ∷ []) n no_mark).parts (kept ++ fresh)) ≤ 11 * n) n h
-        (λ below. subst (λ r. weights r.atoms (take r.parts (kept ++ fresh)) ≤ 11 * n) (sym (old n below)) (subst (λ l. weights (get_or marks n no_mark).atoms l ≤ 11 * n) (sym (old_parts n below)) (before n (omega arith))))
-        (subst (λ r. weights r.atoms (take r.parts (kept ++ fresh)) ≤ 11 * (count + 1)) (sym new) (subst (λ l. weights mark.atoms l ≤ 11 * (count + 1)) (sym all_parts_lem) here))
+module _ (heard : List Heard) (known : State) (sofar : Remembers heard known) where
+  -- after all messages as much is known as now
+  last_mark : (n : ℕ) → length heard ≤ n → mark_after heard known n ≡ mark_of known
+  last_mark n all = get_or_past (marks heard) n (mark_of known) (omega (arith, length_marks heard))
 
-    pub rising_more : length kept ≤ mark.parts → Rising (marks ++ mark ∷ [])
-    rising_more more i n le h =
-        which (λ n. i ≤ n → (get_or (marks ++ mark ∷ []) i no_mark).parts ≤ (get_or (marks ++ mark ∷ []) n no_mark).parts) n h
-        (λ below le. subst (λ r. r.parts ≤ (get_or (marks ++ mark ∷ []) n no_mark).parts) (sym (old i (omega arith))) (subst (λ r. (get_or marks i no_mark).parts ≤ r.parts) (sym (old n below)) (rising i n le (omega arith))))
-        (λ le. subst (λ r. (get_or (marks ++ mark ∷ []) i no_mark).parts ≤ r.parts) (sym new)
-        (which (λ i. (get_or (marks ++ mark ∷ []) i no_mark).parts ≤ mark.parts) i (omega (arith, length_push marks mark)) (λ below. subst (λ r. r.parts ≤ mark.parts) (sym (old i below)) (omega (arith, few i below))) (subst (λ r. r.parts ≤ mark.parts) (sym new) (omega arith))))
-        le
+  -- no mark counts more parts than there are
+  few_parts : (n : ℕ) → (mark_after heard known n).parts ≤ length known.kept
+  few_parts n = omega (arith, sofar.rising n (n + length heard) (omega arith), ap (λ m. m.parts) (last_mark (n + length heard) (omega arith)))
 
-    pub last_more : get_or (marks ++ mark ∷ []) (count + 1) no_mark ≡ mark
-    last_more = new
+  pub known_now : Knows (heard_texts heard) known
+  known_now =
+      same_knows (sym (take_all (length heard) (heard_texts heard) (omega (arith, length_heard heard)))) (sym (ap (λ m. at_mark m known) (last_mark (length heard) (omega arith)) ∙ all_known known))
+      (sofar.knows (length heard))
 
--- back to an earlier mark
-module _ (heard kept : List (List ℕ)) (marks : List Mark) (n : ℕ) (there : n < length marks) (rising : Rising marks) where
-  same_mark : (i : ℕ) → i < n + 1 → get_or (take (n + 1) marks) i no_mark ≡ get_or marks i no_mark
-  same_mark i h = get_or-take (n + 1) marks i no_mark h
+  -- one message more
+  module _ (next : Heard) (marked : next.before ≡ mark_of known) (known' : State) (fresh : List (List ℕ)) (more : known'.kept ≡ known.kept ++ fresh) where
+    old_mark : (n : ℕ) → n ≤ length heard → mark_after (heard ++ next ∷ []) known' n ≡ mark_after heard known n
+    old_mark n old =
+        ap (λ l. get_or l n (mark_of known')) (map_push (λ (h : Heard). h.before) heard next)
+        ∙ at_push (marks heard) next.before (mark_of known') n (omega (arith, length_marks heard))
+        ∙ ap (get_or (marks heard) n) marked
 
-  pub known_back : AllKnown heard kept marks → AllKnown (take n heard) (take (get_or marks n no_mark).parts kept) (take (n + 1) marks)
-  known_back before i h =
-      let below : i < n + 1 = omega (arith, length-take-le (n + 1) marks (omega arith)) in
-      subst (λ r. Knowledge (take i (take n heard)) (known_by r.atoms (take r.parts (take (get_or marks n no_mark).parts kept)))) (sym (same_mark i below))
-      (subst (λ l. Knowledge l (known_by (get_or marks i no_mark).atoms (take (get_or marks i no_mark).parts (take (get_or marks n no_mark).parts kept)))) (sym (take-take i n heard (omega arith)))
-      (subst (λ l. Knowledge (take i heard) (known_by (get_or marks i no_mark).atoms l)) (sym (take-take (get_or marks i no_mark).parts (get_or marks n no_mark).parts kept (rising i n (omega arith) there))) (before i (omega arith))))
+    new_mark : (n : ℕ) → length heard < n → mark_after (heard ++ next ∷ []) known' n ≡ mark_of known'
+    new_mark n new = get_or_past (marks (heard ++ next ∷ [])) n (mark_of known') (omega (arith, length_marks (heard ++ next ∷ []), length_push heard next))
 
-  pub roomy_back : Roomy kept marks → Roomy (take (get_or marks n no_mark).parts kept) (take (n + 1) marks)
-  roomy_back before i h =
-      let below : i < n + 1 = omega (arith, length-take-le (n + 1) marks (omega arith)) in
-      subst (λ r. weights r.atoms (take r.parts (take (get_or marks n no_mark).parts kept)) ≤ 11 * i) (sym (same_mark i below))
-      (subst (λ l. weights (get_or marks i no_mark).atoms l ≤ 11 * i) (sym (take-take (get_or marks i no_mark).parts (get_or marks n no_mark).parts kept (rising i n (omega arith) there))) (before i (omega arith)))
+    old_kept : (n : ℕ) → take (mark_after heard known n).parts known'.kept ≡ take (mark_after heard known n).parts known.kept
+    old_kept n = ap (take (mark_after heard known n).parts) more ∙ take-append-le (mark_after heard known n).parts known.kept fresh (few_parts n)
 
-  pub rising_back : Rising (take (n + 1) marks)
-  rising_back i j le h =
-      let below : j < n + 1 = omega (arith, length-take-le (n + 1) marks (omega arith)) in
-      subst (λ r. r.parts ≤ (get_or (take (n + 1) marks) j no_mark).parts) (sym (same_mark i (omega arith))) (subst (λ r. (get_or marks i no_mark).parts ≤ r.parts) (sym (same_mark j below)) (rising i j le (omega arith)))
+    -- all parts of before are still there
+    more_parts : (n : ℕ) → (mark_after (heard ++ next ∷ []) known' n).parts ≤ length known'.kept
+    more_parts n =
+        ⊎_elim (λ new. omega (arith, ap (λ m. m.parts) (new_mark n new)))
+        (λ old. omega (arith, ap (λ m. m.parts) (old_mark n old), few_parts n, ap length more, length-append known.kept fresh)) (cases_lt (length heard) n)
 
-  pub last_back : get_or (take (n + 1) marks) n no_mark ≡ get_or marks n no_mark
-  last_back = same_mark n (omega arith)
+    new_texts : heard_texts (heard ++ next ∷ []) ≡ heard_texts heard ++ message_text next.message ∷ []
+    new_texts = map_push (λ (h : Heard). message_text h.message) heard next
 
--- the last mark is what is known now
-pub now_known : (heard kept : List (List ℕ)) (marks : List Mark) (count : ℕ) (atoms : Atoms) → length heard ≡ count → count < length marks → (get_or marks count no_mark).atoms ≡ atoms → (get_or marks count no_mark).parts ≡ length kept
-    → AllKnown heard kept marks → Knowledge heard (known_by atoms kept)
-now_known heard kept marks count atoms all there same_atoms same_parts known =
-    subst (λ l. Knowledge heard (known_by atoms l)) (take_all (length kept) kept (omega arith))
-    (subst (λ n. Knowledge heard (known_by atoms (take n kept))) same_parts
-    (subst (λ a. Knowledge heard (known_by a (take (get_or marks count no_mark).parts kept))) same_atoms
-    (subst (λ l. Knowledge l (known_by (get_or marks count no_mark).atoms (take (get_or marks count no_mark).parts kept))) (take_all count heard (omega arith)) (known count there))))
+    pub remembers_more : Knows (heard_texts heard ++ message_text next.message ∷ []) known' → Remembers (heard ++ next ∷ []) known'
+    remembers_more now = record {
+      knows = λ n. ⊎_elim
+          (λ new. same_knows (take_all n _ (omega (arith, length_heard (heard ++ next ∷ []), length_push heard next)) ∙ new_texts) (ap (λ m. at_mark m known') (new_mark n new) ∙ all_known known') now)
+          (λ old. same_knows (ap (take n) new_texts ∙ take-append-le n (heard_texts heard) (message_text next.message ∷ []) (omega (arith, length_heard heard)))
+          (same_state (mark_after heard known n) _ known known' (old_mark n old) (old_kept n)) (sofar.knows n))
+          (cases_lt (length heard) n);
+      rising = λ m n le. ⊎_elim
+          (λ new. omega (arith, more_parts m, ap (λ a. a.parts) (new_mark n new)))
+          (λ old. omega (arith, ap (λ a. a.parts) (old_mark n old), ap (λ a. a.parts) (old_mark m (omega arith)), sofar.rising m n le)) (cases_lt (length heard) n);
+    }
 
-pub now_roomy : (kept : List (List ℕ)) (marks : List Mark) (count : ℕ) (atoms : Atoms) → count < length marks → (get_or marks count no_mark).atoms ≡ atoms → (get_or marks count no_mark).parts ≡ length kept → Roomy kept marks → weights atoms kept ≤ 11 * count
-now_roomy kept marks count atoms there same_atoms same_parts roomy =
-    subst (λ l. weights atoms l ≤ 11 * count) (take_all (length kept) kept (omega arith))
-    (subst (λ n. weights atoms (take n kept) ≤ 11 * count) same_parts (subst (λ a. weights a (take (get_or marks count no_mark).parts kept) ≤ 11 * count) same_atoms (roomy count there)))
+  -- back to what was known after the first n messages
+  module _ (n : ℕ) (known' : State) (is : known' ≡ at_mark (mark_after heard known n) known) where
+    back_mark : mark_of known' ≡ mark_after heard known n
+    back_mark = ap mark_of is ∙ (λ i. record { atoms = (mark_after heard known n).atoms; parts = count i })
+      where
+        count : length (take (mark_after heard known n).parts known.kept) ≡ (mark_after heard known n).parts
+        count = omega (arith, length-take (mark_after heard known n).parts known.kept, few_parts n)
+
+    front_mark : (i : ℕ) → mark_after (take n heard) known' i ≡ mark_after heard known (min i n)
+    front_mark i =
+        ap (λ d. get_or (marks (take n heard)) i d) back_mark
+        ∙ ap (λ l. get_or l i (mark_after heard known n)) (sym (take-map (λ (h : Heard). h.before) n heard))
+        ∙ at_front n (marks heard) (mark_of known) i
+
+    front_texts : (i : ℕ) → take i (heard_texts (take n heard)) ≡ take (min i n) (heard_texts heard)
+    front_texts i = ap (take i) (sym (take-map (λ (h : Heard). message_text h.message) n heard)) ∙ take_front n (heard_texts heard) i
+
+    front_kept : (i : ℕ) → take (mark_after heard known (min i n)).parts known'.kept ≡ take (mark_after heard known (min i n)).parts known.kept
+    front_kept i = ap (λ s. take (mark_after heard known (min i n)).parts s.kept) is ∙ take-take (mark_after heard known (min i n)).parts (mark_after heard known n).parts known.kept (sofar.rising (min i n) n (omega arith))
+
+    pub remembers_back : Remembers (take n heard) known'
+    remembers_back = record {
+      knows = λ i. same_knows (front_texts i) (same_state (mark_after heard known (min i n)) _ known known' (front_mark i) (front_kept i)) (sofar.knows (min i n));
+      rising = λ i j le. omega (arith, ap (λ m. m.parts) (front_mark i), ap (λ m. m.parts) (front_mark j), sofar.rising (min i n) (min j n) (omega arith));
+    }
+
+  -- back to those before a message
+  pub remembers_before : (n : ℕ) (next : Heard) → n < length heard → next ≡ get_or heard n next → (known' : State) → known' ≡ at_mark next.before known → Remembers (take n heard) known'
+  remembers_before n next there at known' is =
+      remembers_back n known' (is ∙ ap (λ m. at_mark m known) (ap (λ (h : Heard). h.before) at ∙ sym (get_or-map (λ (h : Heard). h.before) heard n next (mark_of known) there)))
+
+  -- back to all of them
+  pub remembers_all : (n : ℕ) → length heard ≤ n → Remembers (take n heard) known
+  remembers_all n all = subst (λ l. Remembers l known) (sym (take_all n heard all)) sofar

@@ -1,7 +1,8 @@
 -- A test of what is known that is closed under parting and unlocking decides derivability.
 use Rattle.std.specs.Prelude.{◌≡◌, ℕ, Bool, true, ◌&&◌, List}
-use Rattle.std.proofs.Common.{inl, inr}
-use Rattle.std.proofs.lemmas.Bool.{or_cases, or_left, or_right, and_parts, and_from}
+use Rattle.std.proofs.Common.{inl, inr, arith}
+use Rattle.std.proofs.lemmas.Bool.Decides.{nat_tests}
+use Rattle.std.proofs.lemmas.Bool.{or_cases, and_parts}
 use Rattle.message.specs.Bytes.{is_key}
 use Rattle.message.specs.Trees.{Tree, atom, variable, joined, locked}
 use Rattle.attacker.specs.Derivation.{Derivable, heard_whole, pairing, left_half, right_half, encryption, decryption, builds, Knowledge, Decided}
@@ -10,8 +11,8 @@ use Rattle.attacker.specs.Derivation.{Derivable, heard_whole, pairing, left_half
 pub known_builds : (known : Tree → Bool) (t : Tree) → known t ≡ true → builds known t ≡ true
 known_builds known (atom b) h = h
 known_builds known (variable b) h = h
-known_builds known (joined x y) h = or_left (known (joined x y)) (builds known x && builds known y) h
-known_builds known (locked k x) h = or_left (known (locked k x)) ((is_key k && known (atom k)) && builds known x) h
+known_builds known (joined x y) h = grind (arith, nat_tests)
+known_builds known (locked k x) h = grind (arith, nat_tests)
 
 -- what is built is derived
 pub builds_sound : (heard : List (List ℕ)) (known : Tree → Bool) → Knowledge heard known → (t : Tree) → builds known t ≡ true → Derivable heard t
@@ -36,29 +37,11 @@ builds_sound heard known κ (locked k x) h =
 -- what is derived is built
 pub builds_complete : (heard : List (List ℕ)) (known : Tree → Bool) → Knowledge heard known → {t : Tree} → Derivable heard t → builds known t ≡ true
 builds_complete heard known κ (heard_whole m {t} h e) = known_builds known t (κ.hears m t h e)
-builds_complete heard known κ (pairing {x} {y} d e) =
-    or_right (known (joined x y)) (builds known x && builds known y)
-    (and_from (builds known x) (builds known y) (builds_complete heard known κ d) (builds_complete heard known κ e))
-builds_complete heard known κ (left_half {x} {y} d) =
-    elim (or_cases (known (joined x y)) (builds known x && builds known y) (builds_complete heard known κ d)) [
-      | inl e ↦ known_builds known x (κ.parts_left x y e)
-      | inr e ↦ (and_parts (builds known x) (builds known y) e).0
-    ]
-builds_complete heard known κ (right_half {x} {y} d) =
-    elim (or_cases (known (joined x y)) (builds known x && builds known y) (builds_complete heard known κ d)) [
-      | inl e ↦ known_builds known y (κ.parts_right x y e)
-      | inr e ↦ (and_parts (builds known x) (builds known y) e).1
-    ]
-builds_complete heard known κ (encryption {k} {x} i d e) =
-    or_right (known (locked k x)) ((is_key k && known (atom k)) && builds known x)
-    (and_from (is_key k && known (atom k)) (builds known x)
-    (and_from (is_key k) (known (atom k)) i (builds_complete heard known κ d))
-    (builds_complete heard known κ e))
-builds_complete heard known κ (decryption {k} {j} {x} i d e) =
-    elim (or_cases (known (locked k x)) ((is_key k && known (atom k)) && builds known x) (builds_complete heard known κ d)) [
-      | inl f ↦ known_builds known x (κ.unlocks k j x i f (builds_complete heard known κ e))
-      | inr f ↦ (and_parts (is_key k && known (atom k)) (builds known x) f).1
-    ]
+builds_complete heard known κ (pairing {x} {y} d e) = grind (arith, nat_tests, builds_complete heard known κ d, builds_complete heard known κ e)
+builds_complete heard known κ (left_half {x} {y} d) = grind (arith, nat_tests, known_builds known x, κ.parts_left x y, builds_complete heard known κ d)
+builds_complete heard known κ (right_half {x} {y} d) = grind (arith, nat_tests, known_builds known y, κ.parts_right x y, builds_complete heard known κ d)
+builds_complete heard known κ (encryption {k} {x} i d e) = grind (arith, nat_tests, builds_complete heard known κ d, builds_complete heard known κ e)
+builds_complete heard known κ (decryption {k} {j} {x} i d e) = grind (arith, nat_tests, known_builds known x, κ.unlocks k j x i, builds_complete heard known κ d, builds_complete heard known κ e)
 
 -- such a test decides derivability
 pub decided : Decided

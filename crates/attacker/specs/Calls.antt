@@ -4,6 +4,13 @@ use Rattle.message.specs.declared.stop.Stop.{Stop}
 use Rattle.message.specs.declared.stop.Stop.TheVariants.{NotClosedForm, HeardEnough, AboveCount}
 use Rattle.message.specs.Trees.{is_message}
 
+-- one entry more is refused where there are 128, and else put at the end
+abbrev pub push_answer : {A : Type 0} → List A → Result (Unit {0}) Stop
+push_answer heard = cond (nat_lt (length heard) 128) (Ok tt) (Err HeardEnough)
+
+abbrev pub pushed : {A : Type 0} → List A → A → List A
+pushed heard entry = cond (nat_lt (length heard) 128) (heard ++ entry ∷ []) heard
+
 -- hearing refuses what is no closed form, then a message past the hundred and twenty-eighth
 abbrev pub hear_answer : List (List ℕ) → List ℕ → Result (Unit {0}) Stop
 hear_answer heard m = cond (is_message m) (cond (nat_lt (length heard) 128) (Ok tt) (Err HeardEnough)) (Err NotClosedForm)
@@ -17,5 +24,5 @@ abbrev pub ask_answer : (List (List ℕ) → List ℕ → Bool) → List (List �
 ask_answer makes heard m = cond (is_message m) (Ok (makes heard m)) (Err NotClosedForm)
 
 -- falling back to more messages than are heard is refused; the first n are kept, which are all where it is refused
-abbrev pub back_answer : List (List ℕ) → ℕ → Result (Unit {0}) Stop
+abbrev pub back_answer : {A : Type 0} → List A → ℕ → Result (Unit {0}) Stop
 back_answer heard n = cond (nat_le n (length heard)) (Ok tt) (Err AboveCount)

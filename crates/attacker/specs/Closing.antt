@@ -85,10 +85,7 @@ all_closed known (t ∷ ts) = closed_append known (parts known t) (all_parts kno
 
 -- a lock opens if its inverse key is known
 pub opens_from : (known : Tree → Bool) (k j : ℕ) → inverse_of k ≡ Some j → known (atom j) ≡ true → opens known k ≡ true
-opens_from known k j e h = go (inverse_of k) e
-  where
-    go : (o : Option ℕ) → o ≡ Some j → elim o [ None ↦ false | Some i ↦ known (atom i) ] ≡ true
-    go o e = subst (λ (u : Option ℕ). elim u [ None ↦ false | Some i ↦ known (atom i) ] ≡ true) (sym e) h
+opens_from known k j e h = rw (e, opens) h
 
 -- a lock that opens has an inverse key, which is known
 pub opens_by : (known : Tree → Bool) (k : ℕ) → opens known k ≡ true → (j : ℕ) × (inverse_of k ≡ Some j) × (known (atom j) ≡ true)

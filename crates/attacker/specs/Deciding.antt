@@ -1,6 +1,5 @@
 -- The decision is right, and it keeps the two laws of an attacker's relation.
 use Rattle.std.specs.Prelude.{◌≡◌, ℕ, true, false, List, is_some, Some, None, Option, refl}
-use Rattle.std.proofs.Common.{sym, subst}
 use Rattle.std.proofs.lemmas.Bool.{false≢true}
 use Rattle.message.specs.Trees.{Tree, message_of}
 use Rattle.attacker.specs.Laws.{Within, Monotone, Own}
@@ -20,11 +19,7 @@ derives_sound heard m h = go (message_of m) refl h
 -- what the rules derive the decision allows
 pub derives_complete : (heard : List (List ℕ)) (m : List ℕ) → CanMake heard m → derives heard m ≡ true
 unfolding derives
-derives_complete heard m c = go (message_of m) c.1
-  where
-    go : (o : Option Tree) → o ≡ Some c.0 → elim o [ None ↦ false | Some t ↦ builds (stands (known_parts heard)) t ] ≡ true
-    go o e = subst (λ (p : Option Tree). elim p [ None ↦ false | Some t ↦ builds (stands (known_parts heard)) t ] ≡ true) (sym e)
-        (builds_complete heard (stands (known_parts heard)) (known_parts_lem heard) c.2)
+derives_complete heard m c = rw (c.1, derives) (builds_complete heard (stands (known_parts heard)) (known_parts_lem heard) c.2)
 
 -- the decision is right, both ways
 pub decides_right : Decides

@@ -1,11 +1,11 @@
 -- The more is known, the more parts come out; there are never more parts than bytes.
-use Rattle.std.specs.Prelude.{◌≡◌, ℕ, suc, ◌+◌, ◌≤◌, Bool, true, false, List, [], ◌∷◌, ◌++◌, length, Some, None, Option, refl}
+use Rattle.std.specs.Prelude.{◌≡◌, ℕ, ◌≤◌, Bool, true, false, List, [], ◌∷◌, ◌++◌, length, refl}
 use Rattle.std.proofs.Common.{sym, ap, inl, inr, arith, length-append}
-use Rattle.std.proofs.lemmas.Bool.{or_cases, or_left, or_right, false≢true}
+use Rattle.std.proofs.lemmas.Bool.Decides.{nat_tests}
+use Rattle.std.proofs.lemmas.Bool.{false≢true}
 use Rattle.std.proofs.lemmas.List.{nil_from_length}
-use Rattle.message.specs.Bytes.{inverse_of}
 use Rattle.message.specs.Trees.{Tree, atom, variable, joined, locked, size}
-use Rattle.attacker.specs.Derivation.{same_tree, stands, opens, parts, all_parts, total_size}
+use Rattle.attacker.specs.Derivation.{stands, opens, parts, all_parts, total_size}
 use Rattle.attacker.specs.Standing.{stands_before, stands_behind, stands_either}
 
 -- whatever one test knows another knows too
@@ -35,10 +35,7 @@ pub grown_cons : (x : Tree) (xs ys : List Tree) → Grown xs ys → Grown (x ∷
 grown_cons x xs ys g = record {
   longer = omega arith;
   same = λ e. let f : length xs ≡ length ys = omega arith in ap (λ l. x ∷ l) (g.same f);
-  keeps = λ t h. elim (or_cases (same_tree x t) (stands xs t) h) [
-    | inl e ↦ or_left (same_tree x t) (stands ys t) e
-    | inr e ↦ or_right (same_tree x t) (stands ys t) (g.keeps t e)
-  ];
+  keeps = λ t h. grind (arith, nat_tests, g.keeps t);
 }
 
 -- two lists that grow, one behind the other
@@ -59,11 +56,7 @@ grown_append ps qs us vs g h = record {
 
 -- with more known no lock shuts
 pub opens_more : (known known' : Tree → Bool) → Less known known' → (k : ℕ) → opens known k ≡ true → opens known' k ≡ true
-opens_more known known' l k = go (inverse_of k)
-  where
-    go : (o : Option ℕ) → elim o [ None ↦ false | Some j ↦ known (atom j) ] ≡ true → elim o [ None ↦ false | Some j ↦ known' (atom j) ] ≡ true
-    go None h = h
-    go (Some j) h = l (atom j) h
+opens_more known known' l k h = grind (arith, nat_tests, l)
 
 -- what a lock gives grows, if it opens no less and what it holds grows
 grown_opened : (b c : Bool) → (b ≡ true → c ≡ true) → (xs ys : List Tree) → Grown xs ys → Grown (elim b [ true ↦ xs | false ↦ [] ]) (elim c [ true ↦ ys | false ↦ [] ])
@@ -97,11 +90,7 @@ parts_few known (joined x y) =
     let p = parts_few known x in
     let q = parts_few known y in
     simp length-append (omega arith)
-parts_few known (locked k x) = go (opens known k) (parts known x) (size x) (parts_few known x)
-  where
-    go : (b : Bool) (xs : List Tree) (n : ℕ) → length xs ≤ n → suc (length {A = Tree} (elim b [ true ↦ xs | false ↦ [] ])) ≤ 2 + n
-    go true xs n h = omega arith
-    go false xs n h = omega arith
+parts_few known (locked k x) = grind (arith, nat_tests, parts_few known x)
 
 -- nor have all messages together
 pub all_few : (known : Tree → Bool) (ts : List Tree) → length (all_parts known ts) ≤ total_size ts

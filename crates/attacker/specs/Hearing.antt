@@ -1,13 +1,14 @@
 -- The heard messages as trees, and the test of what is known after hearing them.
 use Rattle.std.specs.Prelude.{◌≡◌, ℕ, true, false, List, [], ◌∷◌, Some, None, Option, refl}
 use Rattle.std.proofs.Common.{sym, subst, ap, ◌∙◌, inl, inr, arith}
+use Rattle.std.proofs.lemmas.Bool.Decides.{nat_tests}
 use Rattle.std.proofs.lemmas.Bool.{or_cases, or_left, or_right, false≢true}
 use Rattle.std.proofs.lemmas.Slice.Eq.{bytes_eq-Decides}
 use Rattle.std.specs.Str.{bytes_eq}
 use Rattle.message.specs.Trees.{Tree, joined, locked, message_of}
 use Rattle.attacker.specs.Laws.{has}
 use Rattle.attacker.specs.Derivation.{Derivable, heard_whole, stands, all_parts, messages, total_size, known_parts, Knowledge}
-use Rattle.attacker.specs.Standing.{stands_first, stands_later, stands_cases}
+use Rattle.attacker.specs.Standing.{stands_first, stands_cases}
 use Rattle.attacker.specs.Growing.{all_grow}
 use Rattle.attacker.specs.Closing.{Closed, all_whole, all_closed, all_derived, opens_from}
 use Rattle.attacker.specs.Rounds.{Settled, closure_settles, closure_derived}
@@ -17,16 +18,9 @@ pub messages_have : (heard : List (List ℕ)) (m : List ℕ) (t : Tree) → has 
 messages_have [] m t h e = absurd (false≢true h)
 messages_have (x ∷ xs) m t h e =
     elim (or_cases (bytes_eq x m) (has xs m) h) [
-      | inl s ↦ first (message_of x) (ap message_of ((bytes_eq-Decides x m).0 s) ∙ e)
-      | inr s ↦ later (message_of x) (messages_have xs m t s e)
+      | inl s ↦ let first = ap message_of ((bytes_eq-Decides x m).0 s) ∙ e in rw (first, messages) (stands_first t (messages xs))
+      | inr s ↦ grind (arith, nat_tests, messages_have xs m t s e)
     ]
-  where
-    first : (o : Option Tree) → o ≡ Some t → stands (elim o [ None ↦ messages xs | Some u ↦ u ∷ messages xs ]) t ≡ true
-    first o f = subst (λ (p : Option Tree). stands (elim p [ None ↦ messages xs | Some u ↦ u ∷ messages xs ]) t ≡ true) (sym f) (stands_first t (messages xs))
-
-    later : (o : Option Tree) → stands (messages xs) t ≡ true → stands (elim o [ None ↦ messages xs | Some u ↦ u ∷ messages xs ]) t ≡ true
-    later None s = s
-    later (Some u) s = stands_later u (messages xs) t s
 
 -- a tree that stands among them is a heard message
 pub messages_heard : (heard : List (List ℕ)) (t : Tree) → stands (messages heard) t ≡ true → (m : List ℕ) × (has heard m ≡ true) × (message_of m ≡ Some t)

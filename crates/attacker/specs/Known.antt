@@ -1,12 +1,23 @@
 -- What the full attacker keeps of the messages that it has heard: the atoms that come out of them, and the texts of
 -- the joined and locked parts that do.
-use Rattle.std.specs.Prelude.{◌≡◌, ℕ, ◌+◌, Bool, true, false, cond, not, ◌&&◌, ◌||◌, List, [], ◌∷◌, ◌++◌, Some, ◌==◌, nat_le}
+use Rattle.std.specs.Prelude.{◌≡◌, ℕ, ◌+◌, ◌≤◌, Bool, true, false, cond, not, ◌&&◌, ◌||◌, List, [], ◌∷◌, ◌++◌, length, Some, ◌==◌, nat_le}
 use Rattle.message.specs.Bytes.{inverse_of}
 use Rattle.message.specs.Trees.{Tree, atom, variable, joined, locked, proper, write, size, closed, message_of, Fits}
 use Rattle.attacker.specs.declared.atoms.Atoms.{Atoms}
+use Rattle.attacker.specs.declared.known.Known.{Known}
+use Rattle.attacker.specs.declared.known.TheConstants.{MOST_PARTS}
 use Rattle.attacker.specs.Atoms.{within}
 use Rattle.attacker.specs.Derivation.{Derivable, opens, parts, stands}
 use Rattle.attacker.specs.Laws.{has}
+use Rattle.attacker.specs.Texts.{texts}
+
+-- the atoms, and the texts of the joined and locked parts
+pub record State : Type 0 where
+  pub atoms : Atoms
+  pub kept : List (List ℕ)
+
+abbrev pub state_of : Known → State
+state_of known = record { atoms = known.atoms; kept = texts known.parts.items }
 
 -- an atom that is known, and nothing else
 abbrev pub atom_known : Atoms → Tree → Bool
@@ -20,11 +31,11 @@ abbrev pub fitting : Tree → Bool
 fitting t = proper t && (nat_le (size t) 24 && closed (write t))
 
 -- an atom of the set, or a part whose text is kept
-abbrev pub known_by : Atoms → List (List ℕ) → Tree → Bool
-known_by atoms kept (atom b) = within atoms b
-known_by atoms kept (variable b) = false
-known_by atoms kept (joined x y) = fitting (joined x y) && has kept (write (joined x y))
-known_by atoms kept (locked k x) = fitting (locked k x) && has kept (write (locked k x))
+abbrev pub known_by : State → Tree → Bool
+known_by known (atom b) = within known.atoms b
+known_by known (variable b) = false
+known_by known (joined x y) = fitting (joined x y) && has known.kept (write (joined x y))
+known_by known (locked k x) = fitting (locked k x) && has known.kept (write (locked k x))
 
 -- the texts of the joined and locked ones among the trees
 abbrev pub composites : List Tree → List (List ℕ)
@@ -52,6 +63,10 @@ abbrev pub weights : Atoms → List (List ℕ) → ℕ
 weights opened [] = 0
 weights opened (m ∷ ms) = weight opened m + weights opened ms
 
+-- so many more parts find room
+abbrev pub HasRoom : State → ℕ → Type 0
+HasRoom state more = length state.kept + more ≤ MOST_PARTS
+
 -- a form with no variable
 pub record ClosedForm (t : Tree) : Type 0 where
   pub fits : Fits t
@@ -61,11 +76,14 @@ pub record ClosedForm (t : Tree) : Type 0 where
 abbrev pub With : Atoms → List Tree → Atoms → Type 0
 With before ts after = (b : ℕ) → within after b ≡ (within before b || stands ts (atom b))
 
--- What taking the bytes apart adds, where they are a message: the texts of the parts that come out, in order, and the
--- atoms among them. The second list and set are those afterwards.
-pub record Absorbs (opened : Atoms) (bs : List ℕ) (kept kept' : List (List ℕ)) (atoms atoms' : Atoms) : Type 0 where
-  pub keeps : (t : Tree) → ClosedForm t → write t ≡ bs → kept' ≡ kept ++ composites (parts (atom_known opened) t)
-  pub learns : (t : Tree) → ClosedForm t → write t ≡ bs → With atoms (parts (atom_known opened) t) atoms'
+-- what taking a message apart adds: the texts of the parts that come out, in order, and the atoms among them
+pub record Takes (opened : Atoms) (t : Tree) (old new : State) : Type 0 where
+  pub keeps : new.kept ≡ old.kept ++ composites (parts (atom_known opened) t)
+  pub learns : With old.atoms (parts (atom_known opened) t) new.atoms
+
+-- the same of bytes, where they are a message
+abbrev pub Absorbs : Atoms → List ℕ → State → State → Type 0
+Absorbs opened bs old new = (t : Tree) → ClosedForm t → write t ≡ bs → Takes opened t old new
 
 -- the locks of the list that an opened atom opens are open: what they lock is known
 abbrev pub Open : Atoms → List (List ℕ) → (Tree → Bool) → Type 0
@@ -90,7 +108,7 @@ opens_now opened wider (b ∷ k ∷ bs) = b == 0xF1 && (opens (atom_known wider)
 
 -- Opening the locks that the wider set opens: the parts kept before stand first, and what was parted and open before is
 -- parted now and open to the wider set.
-pub record Opens (opened wider : Atoms) (kept kept' : List (List ℕ)) (atoms atoms' : Atoms) : Type 0 where
+pub record Opens (opened wider : Atoms) (old new : State) : Type 0 where
   pub fresh : List (List ℕ)
-  pub after : kept' ≡ kept ++ fresh
-  pub knows : (heard : List (List ℕ)) → Parted heard (known_by atoms kept) → Open opened kept (known_by atoms kept) → Inside wider atoms → Parted heard (known_by atoms' kept') × Open wider kept' (known_by atoms' kept')
+  pub after : new.kept ≡ old.kept ++ fresh
+  pub knows : (heard : List (List ℕ)) → Parted heard (known_by old) → Open opened old.kept (known_by old) → Inside wider old.atoms → Parted heard (known_by new) × Open wider new.kept (known_by new)

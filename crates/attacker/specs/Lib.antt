@@ -5,6 +5,7 @@ pub mod Known
 pub mod Laws
 pub mod Listening
 pub mod Marks
+pub mod Shapes
 pub mod Texts
 pub mod Worked
 pub mod Deciding

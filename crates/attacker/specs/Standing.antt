@@ -1,7 +1,8 @@
 -- The same tree, and what stands in a list of trees.
 use Rattle.std.specs.Prelude.{◌≡◌, true, ◌⊎◌, List, [], ◌∷◌, ◌++◌, ◌==◌, refl}
-use Rattle.std.proofs.Common.{ap, inl, inr}
-use Rattle.std.proofs.lemmas.Bool.{or_cases, or_left, or_right, and_parts, and_from, eqb-true, eq-eqb, false≢true}
+use Rattle.std.proofs.Common.{ap, inl, inr, arith}
+use Rattle.std.proofs.lemmas.Bool.Decides.{nat_tests}
+use Rattle.std.proofs.lemmas.Bool.{or_cases, or_left, or_right, and_parts, eqb-true, eq-eqb, false≢true}
 use Rattle.message.specs.Trees.{Tree, atom, variable, joined, locked}
 use Rattle.attacker.specs.Derivation.{same_tree, stands}
 
@@ -9,8 +10,8 @@ use Rattle.attacker.specs.Derivation.{same_tree, stands}
 pub same_self : (t : Tree) → same_tree t t ≡ true
 same_self (atom b) = eq-eqb b b refl
 same_self (variable b) = eq-eqb b b refl
-same_self (joined x y) = and_from (same_tree x x) (same_tree y y) (same_self x) (same_self y)
-same_self (locked k x) = and_from (k == k) (same_tree x x) (eq-eqb k k refl) (same_self x)
+same_self (joined x y) = grind (arith, nat_tests, same_self x, same_self y)
+same_self (locked k x) = grind (arith, nat_tests, same_self x)
 
 -- the same trees are equal
 pub same_equal : (x y : Tree) → same_tree x y ≡ true → x ≡ y
@@ -54,25 +55,14 @@ stands_none t h = absurd (false≢true h)
 -- what stands in a list stands before any other list
 pub stands_before : (xs ys : List Tree) (t : Tree) → stands xs t ≡ true → stands (xs ++ ys) t ≡ true
 stands_before [] ys t h = absurd (false≢true h)
-stands_before (x ∷ xs) ys t h =
-    elim (or_cases (same_tree x t) (stands xs t) h) [
-      | inl e ↦ or_left (same_tree x t) (stands (xs ++ ys) t) e
-      | inr e ↦ or_right (same_tree x t) (stands (xs ++ ys) t) (stands_before xs ys t e)
-    ]
+stands_before (x ∷ xs) ys t h = grind (arith, nat_tests, stands_before xs ys t)
 
 -- what stands in a list stands behind any other list
 pub stands_behind : (xs ys : List Tree) (t : Tree) → stands ys t ≡ true → stands (xs ++ ys) t ≡ true
 stands_behind [] ys t h = h
-stands_behind (x ∷ xs) ys t h = or_right (same_tree x t) (stands (xs ++ ys) t) (stands_behind xs ys t h)
+stands_behind (x ∷ xs) ys t h = grind (arith, nat_tests, stands_behind xs ys t h)
 
 -- what stands in two lists together stands in one of them
 pub stands_either : (xs ys : List Tree) (t : Tree) → stands (xs ++ ys) t ≡ true → (stands xs t ≡ true) ⊎ (stands ys t ≡ true)
 stands_either [] ys t h = inr h
-stands_either (x ∷ xs) ys t h =
-    elim (or_cases (same_tree x t) (stands (xs ++ ys) t) h) [
-      | inl e ↦ inl (or_left (same_tree x t) (stands xs t) e)
-      | inr e ↦ elim (stands_either xs ys t e) [
-        | inl f ↦ inl (or_right (same_tree x t) (stands xs t) f)
-        | inr f ↦ inr f
-      ]
-    ]
+stands_either (x ∷ xs) ys t h = grind (arith, nat_tests, stands_either xs ys t)

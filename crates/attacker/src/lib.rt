@@ -14,12 +14,14 @@ mod known;
 pub mod listening;
 mod mark;
 pub mod repeater;
+mod shape;
 #[cfg(test)]
 mod tests;
+mod transcript;
 
 // All that counts of an attacker: what it has heard, the oldest message first, and the relation "can make", which says
 // for each list of messages what can be made from it. The relation stays through every call, and so does the list where
-// a call refuses.
+// a call refuses: the calls say so one by one, since a type cannot compare two moments.
 pub trait Attacker {
     ghost heard: { Self → List (List ℕ) };
 

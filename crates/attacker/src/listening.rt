@@ -5,6 +5,7 @@ ghost use Rattle.attacker.specs.Listening.{all_answer, all_heard, would_make};
 ghost use Rattle.attacker.specs.Texts.{texts};
 
 use crate::Attacker;
+use crate::transcript::MOST_HEARD;
 use message::closed::Message;
 use message::stop::Stop;
 
@@ -14,7 +15,7 @@ pub fn hear_all<A: Attacker>(attacker: &mut A, messages: &[Message]) -> Result<(
     ensures list { A.heard attacker.new ≡ all_heard (A.heard attacker.old) (texts messages.now) }
     ensures relation { A.makes attacker.new ≡ A.makes attacker.old }
 {
-    if messages.len() > 128 - attacker.count() {
+    if messages.len() > MOST_HEARD - attacker.count() {
         return Err(Stop::HeardEnough);
     }
     for message in messages {

@@ -10,18 +10,9 @@ use std::test::Fail;
 fn a_key_heard_later(rt: HostRuntime) -> Result<(), Fail> {
     let mut full = FullAttacker::new(rt.alloc())?;
     let mut repeater = Repeater::new(rt.alloc())?;
-    let Some(lock) = Message::read(&[0xF1, 0x60, 0x40]) else {
-        assert!(rt; false);
-        return Ok(());
-    };
-    let Some(key) = Message::read(&[0x61]) else {
-        assert!(rt; false);
-        return Ok(());
-    };
-    let Some(data) = Message::read(&[0x40]) else {
-        assert!(rt; false);
-        return Ok(());
-    };
+    let lock = Message::read(&[0xF1, 0x60, 0x40]).ok_or("no message")?;
+    let key = Message::read(&[0x61]).ok_or("no message")?;
+    let data = Message::read(&[0x40]).ok_or("no message")?;
     hear_all(&mut full, &[lock])?;
     hear_all(&mut repeater, &[lock])?;
     assert!(rt; ask_after(&mut full, &[key], &data)?);

@@ -1,5 +1,6 @@
 -- Numbers that stand once and lie below a bound are no more than the bound. Assumes nothing.
-use Rattle.std.proofs.Common.{◌≡◌, ℕ, zero, suc, ◌<◌, ◌≤◌, Bool, true, false, cond, not, ◌&&◌, eqb, ltb, List, [], ◌∷◌, map, length, sym, refl, ap, ◌∙◌, ⊎_elim, arith, lit≤}
+use Rattle.std.proofs.Common.{◌≡◌, ℕ, zero, suc, ◌<◌, ◌≤◌, Bool, true, false, cond, eqb, ltb, List, [], ◌∷◌, map, length, sym, refl, ap, ◌∙◌, ⊎_elim, arith, lit≤}
+use Rattle.std.specs.List.{list_all}
 use borrow.Author.Tests.{clash}
 use Rattle.std.proofs.lemmas.List.{length-map}
 use Rattle.std.proofs.lemmas.Bool.{and_parts, and_from, or_parts, or_from, not-true, not_from_false, ltb-true, lt-ltb, le-ltb, eqb-true, eqb-false, cases_Bool, cases_lt}
@@ -8,34 +9,34 @@ use Rattle.message.specs.declared.kind.Symbol.TheVariants.{Variable, Join, Lock,
 use Rattle.message.specs.Bytes.{is_atom, stands_for_atom}
 use Rattle.message.specs.Variables.{among}
 use Rattle.exchange.specs.Exchanges.{Declaration, Exchange}
-use Rattle.exchange.specs.Rules.{each, once, atoms_of, declaration_fits, is_label_byte, within}
+use Rattle.exchange.specs.Rules.{once, atoms_of, declaration_fits}
 
 -- a number below n + 1 that is not n lies below n
 lower : (n a : ℕ) → ltb a (suc n) ≡ true → eqb n a ≡ false → ltb a n ≡ true
 lower n a below other = lt-ltb a n (⊎_elim (λ h. h) (λ h. absurd (eqb-false n a other (omega (arith, ltb-true a (suc n) below)))) (cases_lt a n))
 
 -- numbers below n + 1 of which none is n lie below n
-each_lower : (n : ℕ) (xs : List ℕ) → among n xs ≡ false → each (λ a. ltb a (suc n)) xs ≡ true → each (λ a. ltb a n) xs ≡ true
+each_lower : (n : ℕ) (xs : List ℕ) → among n xs ≡ false → list_all (λ a. ltb a (suc n)) xs ≡ true → list_all (λ a. ltb a n) xs ≡ true
 each_lower n [] absent below = refl
 each_lower n (a ∷ xs) absent below =
-    let parts = and_parts (ltb a (suc n)) (each (λ a. ltb a (suc n)) xs) below in
-    let apart = or_parts (eqb n a) (among n xs) absent in
-    and_from (ltb a n) (each (λ a. ltb a n) xs) (lower n a parts.0 apart.0) (each_lower n xs apart.1 parts.1)
+    let parts = and_parts _ _ below in
+    let apart = or_parts _ _ absent in
+    and_from _ _ (lower n a parts.0 apart.0) (each_lower n xs apart.1 parts.1)
 
 -- numbers without n that lie below n, at most one fewer
 record Lowered (n : ℕ) (xs : List ℕ) : Type 0 where
   left : List ℕ
   apart : once left ≡ true
-  low : each (λ a. ltb a n) left ≡ true
+  low : list_all (λ a. ltb a n) left ≡ true
   longer : length xs ≤ suc (length left)
   absent : (c : ℕ) → among c xs ≡ false → among c left ≡ false
 
 -- of numbers that stand once below n + 1 only one can be n
-lowered : (n : ℕ) (xs : List ℕ) → once xs ≡ true → each (λ a. ltb a (suc n)) xs ≡ true → Lowered n xs
+lowered : (n : ℕ) (xs : List ℕ) → once xs ≡ true → list_all (λ a. ltb a (suc n)) xs ≡ true → Lowered n xs
 lowered n [] apart below = record { left = []; apart = refl; low = refl; longer = omega arith; absent = λ c e. e }
 lowered n (a ∷ xs) apart below =
-    let parts = and_parts (ltb a (suc n)) (each (λ a. ltb a (suc n)) xs) below in
-    let new = and_parts (not (among a xs)) (once xs) apart in
+    let parts = and_parts _ _ below in
+    let new = and_parts _ _ apart in
     let rest = lowered n xs new.1 parts.1 in
     let gone = not-true (among a xs) new.0 in
     ⊎_elim
@@ -44,21 +45,21 @@ lowered n (a ∷ xs) apart below =
       apart = new.1;
       low = each_lower n xs (ap (λ c. among c xs) (eqb-true n a e) ∙ gone) parts.1;
       longer = omega arith;
-      absent = λ c k. (or_parts (eqb c a) (among c xs) k).1;
+      absent = λ c k. (or_parts _ _ k).1;
     })
     (λ e. record {
       left = a ∷ rest.left;
-      apart = and_from (not (among a rest.left)) (once rest.left) (not_from_false (among a rest.left) (rest.absent a gone)) rest.apart;
-      low = and_from (ltb a n) (each (λ b. ltb b n) rest.left) (lower n a parts.0 e) rest.low;
+      apart = and_from _ _ (not_from_false (among a rest.left) (rest.absent a gone)) rest.apart;
+      low = and_from _ _ (lower n a parts.0 e) rest.low;
       longer = omega (arith, rest.longer);
-      absent = λ c k. let both = or_parts (eqb c a) (among c xs) k in or_from (eqb c a) (among c rest.left) both.0 (rest.absent c both.1);
+      absent = λ c k. let both = or_parts _ _ k in or_from _ _ both.0 (rest.absent c both.1);
     })
     (cases_Bool (eqb n a))
 
 -- numbers that stand once and lie below n are at most n
-pub once_below : (n : ℕ) (xs : List ℕ) → once xs ≡ true → each (λ a. ltb a n) xs ≡ true → length xs ≤ n
+pub once_below : (n : ℕ) (xs : List ℕ) → once xs ≡ true → list_all (λ a. ltb a n) xs ≡ true → length xs ≤ n
 once_below zero [] apart below = omega arith
-once_below zero (a ∷ xs) apart below = absurd (omega (arith, ltb-true a 0 (and_parts (ltb a 0) (each (λ b. ltb b 0) xs) below).0))
+once_below zero (a ∷ xs) apart below = absurd (omega (arith, ltb-true a 0 (and_parts _ _ below).0))
 once_below (suc n) xs apart below =
     let less = lowered n xs apart below in
     omega (arith, less.longer, once_below n less.left less.apart less.low)
@@ -86,22 +87,22 @@ pub atom_below : (a : ℕ) → is_atom a ≡ true → a < 0x70
 atom_below a e = ⊎_elim (λ h. h) (λ h. absurd (clash (sym (above_atoms a h) ∙ e))) (cases_lt a 0x70)
 
 -- so different atoms are at most 112
-pub atoms_below : (ns : List ℕ) → each is_atom ns ≡ true → once ns ≡ true → length ns ≤ 112
+pub atoms_below : (ns : List ℕ) → list_all is_atom ns ≡ true → once ns ≡ true → length ns ≤ 112
 atoms_below ns atoms apart = once_below 0x70 ns apart (go ns atoms)
   where
-    go : (ns : List ℕ) → each is_atom ns ≡ true → each (λ a. ltb a 0x70) ns ≡ true
+    go : (ns : List ℕ) → list_all is_atom ns ≡ true → list_all (λ a. ltb a 0x70) ns ≡ true
     go [] e = refl
     go (a ∷ ns) e =
-        let parts = and_parts (is_atom a) (each is_atom ns) e in
-        and_from (ltb a 0x70) (each (λ b. ltb b 0x70) ns) (lt-ltb a 0x70 (atom_below a parts.0)) (go ns parts.1)
+        let parts = and_parts _ _ e in
+        and_from _ _ (lt-ltb a 0x70 (atom_below a parts.0)) (go ns parts.1)
 
 -- and so are the declared ones
-pub atoms_few : (x : Exchange) → each declaration_fits x.atoms ≡ true → once (atoms_of x) ≡ true → length x.atoms ≤ 112
+pub atoms_few : (x : Exchange) → list_all declaration_fits x.atoms ≡ true → once (atoms_of x) ≡ true → length x.atoms ≤ 112
 atoms_few x fit apart = omega (arith, length-map x.atoms (λ d. d.atom), atoms_below (atoms_of x) (go x.atoms fit) apart)
   where
-    go : (ds : List Declaration) → each declaration_fits ds ≡ true → each is_atom (map (λ d. d.atom) ds) ≡ true
+    go : (ds : List Declaration) → list_all declaration_fits ds ≡ true → list_all is_atom (map (λ d. d.atom) ds) ≡ true
     go [] e = refl
     go (d ∷ ds) e =
-        let parts = and_parts (declaration_fits d) (each declaration_fits ds) e in
-        let own = and_parts (is_atom d.atom) (each is_label_byte d.label && within 1 12 (length d.label)) parts.0 in
-        and_from (is_atom d.atom) (each is_atom (map (λ d. d.atom) ds)) own.0 (go ds parts.1)
+        let parts = and_parts _ _ e in
+        let own = and_parts _ _ parts.0 in
+        and_from _ _ own.0 (go ds parts.1)

@@ -87,7 +87,7 @@ module _ (file : List ℕ) (z : Exchange) where
   reading_ok (suc n) at last x rest g whole here e =
       either_way (Fit z × (file_bytes z ≡ file)) (is_end last && leb (length file) at) (accepted x) _ (accepted z)
       (λ done same.
-      let p = and_parts (is_end last) (leb (length file) at) done in
+      let p = and_parts _ _ done in
       accepted_end last x rest g whole p.0 (omega (arith, leb-true (length file) at p.1)) (cc))
       (λ h.
       let o = onward_accepted (turn last x (drop at file)) at _ z h in

@@ -1,8 +1,8 @@
 -- Keeping every rule, and passing the one test of it.
-use Rattle.std.proofs.Common.{◌≡◌, true, leb, length}
+use Rattle.std.proofs.Common.{◌≡◌, true, length}
 use Rattle.std.proofs.lemmas.Bool.{and_from, and_parts, le-leb, leb-true}
 use Rattle.exchange.specs.Exchanges.{Exchange}
-use Rattle.exchange.specs.Rules.{Fit, is_fit, each, once, within, atoms_of, declaration_fits, message_fits, role_fits, session_fits, claim_fits}
+use Rattle.exchange.specs.Rules.{Fit, is_fit}
 use Rattle.exchange.proofs.Passing.{within_from, within_both}
 
 pub test_from_fit : (x : Exchange) → Fit x → is_fit x ≡ true
@@ -15,15 +15,15 @@ test_from_fit x f =
 
 pub fit_from_test : (x : Exchange) → is_fit x ≡ true → Fit x
 fit_from_test x e =
-    let a = and_parts (each declaration_fits x.atoms) _ e in
-    let b = and_parts (once (atoms_of x)) _ a.1 in
-    let c = and_parts (each (message_fits (atoms_of x)) x.opening) _ b.1 in
-    let d = and_parts (leb (length x.opening) 32) _ c.1 in
-    let g = and_parts (each (role_fits (atoms_of x)) x.roles) _ d.1 in
-    let h = and_parts (within 1 4 (length x.roles)) _ g.1 in
-    let i = and_parts (each (session_fits (atoms_of x) x.roles) x.sessions) _ h.1 in
-    let j = and_parts (within 1 8 (length x.sessions)) _ i.1 in
-    let k = and_parts (each (claim_fits (atoms_of x) x.roles x.sessions) x.claims) _ j.1 in
+    let a = and_parts _ _ e in
+    let b = and_parts _ _ a.1 in
+    let c = and_parts _ _ b.1 in
+    let d = and_parts _ _ c.1 in
+    let g = and_parts _ _ d.1 in
+    let h = and_parts _ _ g.1 in
+    let i = and_parts _ _ h.1 in
+    let j = and_parts _ _ i.1 in
+    let k = and_parts _ _ j.1 in
     let roles = within_both 1 4 (length x.roles) h.0 in
     let sessions = within_both 1 8 (length x.sessions) j.0 in
     let claims = within_both 1 8 (length x.claims) k.1 in

@@ -1,6 +1,6 @@
 -- One field more: the exchange still keeps the rules so far, and its bytes are one field longer.
 use Rattle.std.proofs.Common.{◌≡◌, ℕ, suc, ◌-◌, ◌%◌, ◌<◌, ◌≤◌, true, not, ◌&&◌, ◌||◌, ltb, leb, ◌⊎◌, List, [], ◌∷◌, ◌++◌, length, Ok, sym, refl, ap, ◌∙◌, inl, inr, arith}
-use Rattle.std.specs.List.{flat_map}
+use Rattle.std.specs.List.{flat_map, list_all}
 use Rattle.std.proofs.lemmas.List.{append-nil, append_assoc, length_push, length-take-le, map_push, nil_from_length}
 use Rattle.std.proofs.lemmas.Bool.{and_parts, and_from, or_cases, not-true, leb-true, le-leb}
 use Rattle.message.specs.declared.stop.Stop.TheVariants.{BadLabel, NotOneForm, VariableInMessage, UndeclaredAtom, NotAscending, OutOfRange, UnboundVariable, TooManyNewVariables}
@@ -9,7 +9,7 @@ use Rattle.message.specs.Trees.{is_form, closed}
 use Rattle.message.specs.Variables.{among}
 use Rattle.exchange.specs.Exchanges.{Declaration, Step, Session, Claim, secret, session_secret, matched, matched_once, Exchange}
 use Rattle.exchange.specs.Files.{field, declaration_field, opening_field, step_field, role_fields, session_field, claim_field, body_bytes}
-use Rattle.exchange.specs.Rules.{each, atoms_of, is_label_byte, uses_declared, role_variables, fillable, few_new, role_at, session_at, within, declaration_fits, message_fits, step_fits, role_fits, starts_fit, session_fits, claim_fits}
+use Rattle.exchange.specs.Rules.{atoms_of, is_label_byte, uses_declared, role_variables, fillable, few_new, role_at, session_at, within, declaration_fits, message_fits, step_fits, role_fits, starts_fit, session_fits, claim_fits}
 use Rattle.exchange.specs.Checks.{form_of, message_of, bindings_of, starts_of, last_role, with_declaration, with_opening, with_roles, with_role, with_step, with_session, with_claim, add_declaration, add_session, add_claim}
 use Rattle.exchange.proofs.Each.{each_push, once_push, joined_push}
 use Rattle.exchange.proofs.Items.{claim_mark}
@@ -53,14 +53,14 @@ message_ok atoms m got e =
     let p = unless_ok (is_form m) NotOneForm _ got e in
     let q = unless_ok (closed m) VariableInMessage _ got p.1 in
     let r = unless_ok (uses_declared atoms m) UndeclaredAtom (Ok m) got q.1 in
-    and_from (is_form m) _ p.0 (and_from (closed m) (uses_declared atoms m) q.0 r.0)
+    and_from _ _ p.0 (and_from _ _ q.0 r.0)
 
 -- a form that was let through
 pub form_ok : (atoms m got : List ℕ) → form_of atoms m ≡ Ok got → (is_form m && uses_declared atoms m) ≡ true
 form_ok atoms m got e =
     let p = unless_ok (is_form m) NotOneForm _ got e in
     let q = unless_ok (uses_declared atoms m) UndeclaredAtom (Ok m) got p.1 in
-    and_from (is_form m) (uses_declared atoms m) p.0 q.0
+    and_from _ _ p.0 q.0
 
 module _ (n : ℕ) (x y : Exchange) (g : Grown n x) where
   -- one declaration more
@@ -69,13 +69,13 @@ module _ (n : ℕ) (x y : Exchange) (g : Grown n x) where
       let d : Declaration = record { atom = a; label = label } in
       let p = unless_ok (not (among a (atoms_of x))) NotAscending _ y e in
       let q = unless_ok (is_atom a) OutOfRange _ y p.1 in
-      let r = unless_ok (each is_label_byte label) BadLabel (Ok (with_declaration x d)) y q.1 in
+      let r = unless_ok (list_all is_label_byte label) BadLabel (Ok (with_declaration x d)) y q.1 in
       let n≤1 : n ≤ 1 = omega arith in
       let opening = g.late.no_opening n≤1 in
       let roles = g.late.no_role (omega arith) in
       let sessions = g.late.no_session (omega arith) in
       let claims = g.late.no_claim (omega arith) in
-      let range = and_parts (leb 2 (suc (length label))) (leb (suc (length label)) 13) size in
+      let range = and_parts _ _ size in
       let low = leb-true 2 (suc (length label)) range.0 in
       let high = leb-true (suc (length label)) 13 range.1 in
       let short : within 1 12 (length label) ≡ true = and_from _ _ (le-leb 1 (length label) (omega arith)) (le-leb (length label) 12 (omega arith)) in
@@ -84,7 +84,7 @@ module _ (n : ℕ) (x y : Exchange) (g : Grown n x) where
         grown = record {
           late = record { no_opening = λ h. opening; no_role = λ h. roles; no_session = λ h. sessions; no_claim = λ h. claims };
           declared = record {
-            declarations = each_push declaration_fits x.atoms d g.declared.declarations (and_from (is_atom a) _ q.0 (and_from _ _ r.0 short));
+            declarations = each_push declaration_fits x.atoms d g.declared.declarations (and_from _ _ q.0 (and_from _ _ r.0 short));
             declared_once = rw names (once_push (atoms_of x) a g.declared.declared_once (not-true (among a (atoms_of x)) p.0));
           };
           opened = rw opening (opened_none _);
@@ -141,9 +141,9 @@ module _ (n : ℕ) (x y : Exchange) (g : Grown n x) where
   pub grows_role : Follows n 3 → (leb (length x.roles) 0 || leb 1 (length (last_role x))) ≡ true → length x.roles < 4 → with_role x ≡ y → Grows 3 x (field 0x03 []) y
   grows_role follows due room e =
       let n≤4 : n ≤ 4 = omega arith in
-      let before : each (role_fits (atoms_of x)) x.roles ≡ true =
+      let before : list_all (role_fits (atoms_of x)) x.roles ≡ true =
       elim (or_cases (leb (length x.roles) 0) (leb 1 (length (last_role x))) due) [
-        | inl h ↦ ap (each (role_fits (atoms_of x))) (nil_from_length x.roles (omega (arith, leb-true (length x.roles) 0 h)))
+        | inl h ↦ ap (list_all (role_fits (atoms_of x))) (nil_from_length x.roles (omega (arith, leb-true (length x.roles) 0 h)))
         | inr h ↦ roles_fit (atoms_of x) x.roles g.played (leb-true 1 (length (last_role x)) h)
       ] in
       rw (← e) (grows_roles 3 (x.roles ++ [] ∷ []) (field 0x03 []) (inl refl) n≤4
@@ -183,7 +183,7 @@ module _ (n : ℕ) (x y : Exchange) (g : Grown n x) where
       let few : length starts ≤ 8 = omega (arith, pairs_length starts, ap length pairs.1) in
       let fits : starts_fit atoms steps starts ≡ true =
       and_from _ _ (le-leb (length starts) 8 few) (and_from _ _ pairs.0.in_order (and_from _ _ pairs.0.fits (and_from _ _ (ap (fillable steps) (sym same) ∙ u.0) (ap (few_new steps) (sym same) ∙ v.0)))) in
-      (record { role = r; starts = starts }, and_from (ltb r (length x.roles)) _ p.0 fits, ap (λ l. field 0x05 (r ∷ l)) pairs.1, ok_same _ y q.2)
+      (record { role = r; starts = starts }, and_from _ _ p.0 fits, ap (λ l. field 0x05 (r ∷ l)) pairs.1, ok_same _ y q.2)
 
   -- one session more, which fits
   grows_run : (s : Session) (bytes : List ℕ) → Follows n 5 → 1 ≤ length (last_role x) → length x.sessions < 8 → session_fits (atoms_of x) x.roles s ≡ true → session_field s ≡ bytes → with_session x s ≡ y → Grows 5 x bytes y

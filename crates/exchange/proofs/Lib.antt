@@ -1,7 +1,5 @@
 pub mod Adding
 pub mod Apart
-pub mod Copying
-pub mod Counting
 pub mod Cutting
 pub mod Each
 pub mod Faithful
@@ -24,4 +22,3 @@ pub mod Restoring
 pub mod Rounds
 pub mod Sizes
 pub mod Taken
-pub mod Values

@@ -1,53 +1,70 @@
--- A loop that asks a test of each element: what is left of the list gives the answer.
-use Rattle.std.proofs.Common.{◌≡◌, ℕ, zero, suc, ◌+◌, ◌<◌, ◌≤◌, Bool, true, false, ◌&&◌, ◌||◌, eqb, List, [], ◌∷◌, ◌++◌, length, get_or, drop, sym, refl, ap, ◌∙◌, ⊎_elim, add-one, arith}
-use Rattle.std.proofs.lemmas.List.{at_drop_more, at_drop_all}
-use Rattle.std.proofs.lemmas.Bool.{and_left, and_right, and_from, cases_lt}
+-- What the searches of lists find, in the words of the rules.
+use Rattle.std.proofs.Common.{◌≡◌, ℕ, zero, suc, ◌+◌, ◌-◌, Bool, true, false, ◌&&◌, ◌||◌, eqb, List, [], ◌∷◌, ◌++◌, map, length, get_or, take, sym, refl, ap, ◌∙◌, arith}
+use Rattle.std.specs.List.{flat_map, list_all, list_any, enumerate_from}
+use Rattle.std.proofs.lemmas.List.{take-map}
+use Rattle.message.specs.declared.form.Form.{Form}
 use Rattle.message.specs.Variables.{among}
-use Rattle.exchange.specs.Rules.{each, each_below}
+use Rattle.exchange.specs.declared.step.Step as code
+use Rattle.exchange.specs.Exchanges.{Step, sends, Binding}
+use Rattle.exchange.specs.Parts.{step_of}
+use Rattle.exchange.specs.Rules.{each_below, step_at, throughout}
 
--- the test fails here
-pub each_no : {A : Type 0} (test : A → Bool) (xs : List A) (i : ℕ) (d : A) → each test (drop i xs) ≡ each test xs → i < length xs → false ≡ test (get_or xs i d) → false ≡ each test xs
-each_no test xs i d inv h e = ap (λ t. t && each test (drop (i + 1) xs)) e ∙ (sym (at_drop_more (each test) xs i d h) ∙ inv)
+-- one of some values has this number
+any_seen : {A B : Type 0} (f : A → B) (key : B → ℕ) (v : ℕ) (xs : List A) → list_any (λ x. eqb v (key (f x))) xs ≡ among v (map key (map f xs))
+any_seen f key v [] = refl
+any_seen f key v (x ∷ xs) = ap (λ t. eqb v (key (f x)) || t) (any_seen f key v xs)
 
--- the test holds here
-pub each_more : {A : Type 0} (test : A → Bool) (xs : List A) (i : ℕ) (d : A) → each test (drop i xs) ≡ each test xs → i < length xs → true ≡ test (get_or xs i d) → each test (drop (i + 1) xs) ≡ each test xs
-each_more test xs i d inv h e = ap (λ t. t && each test (drop (i + 1) xs)) e ∙ (sym (at_drop_more (each test) xs i d h) ∙ inv)
-
--- nothing is left
-pub each_yes : {A : Type 0} (test : A → Bool) (xs : List A) (i : ℕ) → each test (drop i xs) ≡ each test xs → length xs ≤ i → true ≡ each test xs
-each_yes test xs i inv h = sym (at_drop_all (each test) xs i h) ∙ inv
-
--- A loop that looks for an element: F says whether one of the list is such, and t whether this one is.
--- This one is.
-pub any_yes : {A : Type 0} (F : List A → Bool) (xs : List A) (i : ℕ) (d : A) (t : Bool) {r : Bool} → F (drop i xs) ≡ r → i < length xs → F (get_or xs i d ∷ drop (i + 1) xs) ≡ (t || F (drop (i + 1) xs)) → t ≡ true → true ≡ r
-any_yes F xs i d t inv h shape e = sym (ap (λ b. b || F (drop (i + 1) xs)) e) ∙ (sym shape ∙ (sym (at_drop_more F xs i d h) ∙ inv))
-
--- it is not
-pub any_more : {A : Type 0} (F : List A → Bool) (xs : List A) (i : ℕ) (d : A) (t : Bool) {r : Bool} → F (drop i xs) ≡ r → i < length xs → F (get_or xs i d ∷ drop (i + 1) xs) ≡ (t || F (drop (i + 1) xs)) → t ≡ false → F (drop (i + 1) xs) ≡ r
-any_more F xs i d t inv h shape e = sym (ap (λ b. b || F (drop (i + 1) xs)) e) ∙ (sym shape ∙ (sym (at_drop_more F xs i d h) ∙ inv))
-
--- none is left
-pub any_no : {A : Type 0} (F : List A → Bool) (xs : List A) (i : ℕ) {r : Bool} → F (drop i xs) ≡ r → length xs ≤ i → F [] ≡ false → false ≡ r
-any_no F xs i inv h none = sym none ∙ (sym (at_drop_all F xs i h) ∙ inv)
-
--- A loop that asks a test of each number below n: it fails at i
-pub below_fails : (n : ℕ) (test : ℕ → Bool) (i : ℕ) → i < n → test i ≡ false → each_below n test ≡ false
-below_fails zero test i h e = absurd (omega arith)
-below_fails (suc n) test i h e =
-    ⊎_elim
-    (λ l. and_left (each_below n test) (test n) (below_fails n test i l e))
-    (λ g. let is : n ≡ i = omega arith in and_right (each_below n test) (test n) (ap test is ∙ e))
-    (cases_lt i n)
-
--- it holds at i
-pub below_more : (i : ℕ) (test : ℕ → Bool) → each_below i test ≡ true → test i ≡ true → each_below (i + 1) test ≡ true
-below_more i test e h = rw add-one (and_from (each_below i test) (test i) e h)
+pub any_in : {A B : Type 0} (f : A → B) (key : B → ℕ) (v : ℕ) (xs : List A) (ys : List B) (r : Bool) → map f xs ≡ ys → r ≡ list_any (λ x. eqb v (key (f x))) xs → r ≡ among v (map key ys)
+any_in f key v xs ys r is e = e ∙ (any_seen f key v xs ∙ ap (λ l. among v (map key l)) is)
 
 -- a number in one of two lists
-pub among_append : (v : ℕ) (xs ys : List ℕ) → among v (xs ++ ys) ≡ (among v xs || among v ys)
+among_append : (v : ℕ) (xs ys : List ℕ) → among v (xs ++ ys) ≡ (among v xs || among v ys)
 among_append v [] ys = refl
 among_append v (x ∷ xs) ys = ap (λ t. eqb v x || t) (among_append v xs ys) ∙ group (eqb v x) (among v xs) (among v ys)
   where
     group : (r s t : Bool) → (r || (s || t)) ≡ ((r || s) || t)
     group true s t = refl
     group false s t = refl
+
+-- a number in what one of some values gives
+pub any_joined : {A B : Type 0} (f : A → B) (bytes : B → List ℕ) (v : ℕ) (xs : List A) → list_any (λ x. among v (bytes (f x))) xs ≡ among v (flat_map bytes (map f xs))
+any_joined f bytes v [] = refl
+any_joined f bytes v (x ∷ xs) = ap (λ t. among v (bytes (f x)) || t) (any_joined f bytes v xs) ∙ sym (among_append v (bytes (f x)) (flat_map bytes (map f xs)))
+
+-- a test of the numbers below n, where another one answers the same
+below_same : (n : ℕ) (s t : ℕ → Bool) → ((i : ℕ) → s i ≡ t i) → each_below n s ≡ each_below n t
+below_same zero s t e = refl
+below_same (suc n) s t e = ap (λ b. b && s n) (below_same n s t e) ∙ ap (λ b. each_below n t && b) (e n)
+
+-- the first number, and those after it
+below_first : (n : ℕ) (t : ℕ → Bool) → each_below (suc n) t ≡ (t 0 && each_below n (λ i. t (suc i)))
+below_first zero t = one (t 0)
+  where
+    one : (b : Bool) → b ≡ (b && true)
+    one true = refl
+    one false = refl
+below_first (suc n) t = ap (λ b. b && t (suc n)) (below_first n t) ∙ group (t 0) (each_below n (λ i. t (suc i))) (t (suc n))
+  where
+    group : (r s q : Bool) → ((r && s) && q) ≡ (r && (s && q))
+    group true s q = refl
+    group false s q = refl
+
+-- a test of each element with its place, from a place on
+pub each_place : {A B : Type 0} (f : A → B) (test : ℕ → B → Bool) (d : B) (k : ℕ) (xs : List A) → list_all (λ p. test p.0 (f p.1)) (enumerate_from k xs) ≡ each_below (length (map f xs)) (λ i. test (k + i) (get_or (map f xs) i d))
+each_place f test d k [] = refl
+each_place f test d k (x ∷ xs) =
+    let later : (i : ℕ) → test (k + 1 + i) (get_or (map f xs) i d) ≡ test (k + suc i) (get_or (map f xs) i d) = λ i. ap (λ n. test n (get_or (map f xs) i d)) (omega arith) in
+    let here : test k (f x) ≡ test (k + 0) (f x) = ap (λ n. test n (f x)) (omega arith) in
+    ap (λ b. b && list_all (λ p. test p.0 (f p.1)) (enumerate_from (k + 1) xs)) here
+    ∙ (ap (λ b. test (k + 0) (f x) && b) (each_place f test d (k + 1) xs ∙ below_same (length (map f xs)) _ _ later)
+    ∙ sym (below_first (length (map f xs)) (λ i. test (k + i) (get_or (f x ∷ map f xs) i d))))
+
+-- a rule of steps at each line of a role, the steps before it cut off as the code cuts them
+pub throughout_lines : (rule : List Binding → List Step → Step → Bool) (starts : List Binding) (steps : List (code.Step Form)) (role : List Step) → map step_of steps ≡ role
+    → list_all (λ (p : ℕ × code.Step Form). rule starts (map step_of (take (p.0 - 0) steps)) (step_of p.1)) (enumerate_from 0 steps) ≡ throughout rule role starts
+throughout_lines rule starts steps role is =
+    let seen = map step_of steps in
+    let before : (i : ℕ) → rule starts (map step_of (take (0 + i - 0) steps)) (step_at seen i) ≡ rule starts (take i seen) (step_at seen i) =
+    λ i. ap (λ l. rule starts l (step_at seen i)) (ap (λ n. map step_of (take n steps)) (omega arith) ∙ sym (take-map step_of i steps)) in
+    each_place step_of (λ n s. rule starts (map step_of (take (n - 0) steps)) s) (sends []) 0 steps
+    ∙ (below_same (length seen) _ _ before ∙ ap (λ r. throughout rule r starts) is)

@@ -1,5 +1,5 @@
 -- Reading a row of fields that all pass. Assumes nothing.
-use Rattle.std.proofs.Common.{◌≡◌, ℕ, zero, suc, ◌+◌, ◌<◌, ◌≤◌, true, false, not, ◌&&◌, ◌||◌, eqb, leb, List, [], ◌∷◌, ◌++◌, length, take, drop, Some, None, Ok, Option, sym, refl, ap, ◌∙◌, subst, append_assoc, append-nil, div-add-mod', arith}
+use Rattle.std.proofs.Common.{◌≡◌, ℕ, zero, suc, ◌+◌, ◌<◌, ◌≤◌, true, false, ◌&&◌, eqb, leb, List, [], ◌∷◌, ◌++◌, length, take, drop, Some, None, Ok, Option, sym, refl, ap, ◌∙◌, subst, append_assoc, append-nil, div-add-mod', arith}
 use Rattle.std.specs.Option.{ok_or}
 use Rattle.std.specs.List.{flat_map}
 use Rattle.std.proofs.lemmas.List.{length-append, length-drop, drop-drop, drop_at, take_at}
@@ -28,7 +28,7 @@ After top rest x z = (last : Option Tag) → last_byte last ≤ top → Ends res
 pub follows : (last : Option Tag) (tag : Tag) → last_byte last ≤ tag_byte tag → last_byte last ≤ 6 → may_follow last tag ≡ true
 follows None tag h k = refl
 follows (Some t) tag h k =
-    and_from (not (eqb (tag_byte t) 0x7F)) (leb (tag_byte t) (tag_byte tag) || (eqb (tag_byte t) 0x04 && eqb (tag_byte tag) 0x03))
+    and_from _ _
     (not_from_false (eqb (tag_byte t) 0x7F) (ne_eqb (tag_byte t) 0x7F (λ e. omega arith)))
     (or_left (leb (tag_byte t) (tag_byte tag)) (eqb (tag_byte t) 0x04 && eqb (tag_byte tag) 0x03) (le-leb (tag_byte t) (tag_byte tag) h))
 

@@ -1,6 +1,6 @@
 -- The starting values that are read of a session's pairs fit, and are written as those pairs.
 use Rattle.std.proofs.Common.{◌≡◌, ℕ, ◌*◌, ◌%◌, true, ltb, List, [], ◌∷◌, ◌++◌, length, Ok, sym, refl, ◌∙◌, arith}
-use Rattle.std.specs.List.{flat_map}
+use Rattle.std.specs.List.{flat_map, list_all}
 use Rattle.std.proofs.lemmas.List.{append-nil, append_assoc, map_push}
 use Rattle.std.proofs.lemmas.Bool.{and_parts, and_from, ltb-true, lt-ltb}
 use Rattle.message.specs.declared.stop.Stop.TheVariants.{UndeclaredAtom, NotAscending, OutOfRange, WrongKind}
@@ -8,21 +8,21 @@ use Rattle.message.specs.Filling.{of_kind}
 use Rattle.message.specs.Variables.{among}
 use Rattle.exchange.specs.Exchanges.{Step, Binding}
 use Rattle.exchange.specs.Files.{binding_bytes}
-use Rattle.exchange.specs.Rules.{each, ascending, role_variables, started, binding_fits}
+use Rattle.exchange.specs.Rules.{ascending, role_variables, started, binding_fits}
 use Rattle.exchange.specs.Checks.{is_next, pair_fits, bindings_of}
 use Rattle.exchange.proofs.Each.{each_push, ascending_push, joined_push}
 use Rattle.exchange.proofs.Refusing.{ok_same, unless_ok, then_ok}
 
 -- a variable that is larger than the last is larger than each
-below_next : (got : List Binding) (v : ℕ) → ascending (started got) ≡ true → is_next got v ≡ true → each (λ u. ltb u v) (started got) ≡ true
+below_next : (got : List Binding) (v : ℕ) → ascending (started got) ≡ true → is_next got v ≡ true → list_all (λ u. ltb u v) (started got) ≡ true
 below_next [] v e h = refl
-below_next (b ∷ []) v e h = and_from (ltb b.variable v) true h refl
+below_next (b ∷ []) v e h = and_from _ _ h refl
 below_next (b ∷ (d ∷ rest)) v e h =
-    let p = and_parts (each (ltb b.variable) (started (d ∷ rest))) (ascending (started (d ∷ rest))) e in
+    let p = and_parts _ _ e in
     let after = below_next (d ∷ rest) v p.1 h in
-    let lower = ltb-true b.variable d.variable (and_parts (ltb b.variable d.variable) (each (ltb b.variable) (started rest)) p.0).0 in
-    let upper = ltb-true d.variable v (and_parts (ltb d.variable v) (each (λ u. ltb u v) (started rest)) after).0 in
-    and_from (ltb b.variable v) (each (λ u. ltb u v) (started (d ∷ rest))) (lt-ltb b.variable v (omega arith)) after
+    let lower = ltb-true b.variable d.variable (and_parts _ _ p.0).0 in
+    let upper = ltb-true d.variable v (and_parts _ _ after).0 in
+    and_from _ _ (lt-ltb b.variable v (omega arith)) after
 
 -- the bytes of pairs are two for each
 pub pairs_length : (starts : List Binding) → length (flat_map binding_bytes starts) ≡ 2 * length starts
@@ -33,7 +33,7 @@ module _ (atoms : List ℕ) (steps : List Step) where
   -- pairs that fit and stand in order
   pub record Paired (starts : List Binding) : Type 0 where
     pub in_order : ascending (started starts) ≡ true
-    pub fits : each (binding_fits atoms steps) starts ≡ true
+    pub fits : list_all (binding_fits atoms steps) starts ≡ true
 
   -- one pair more
   paired_push : (got : List Binding) (v a : ℕ) (b : Binding) → Paired got → pair_fits atoms steps got v a ≡ Ok b → Paired (got ++ b ∷ []) × (binding_bytes b ≡ v ∷ a ∷ [])

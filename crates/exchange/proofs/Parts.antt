@@ -1,9 +1,10 @@
 -- What is known of each part of an exchange while a file is read.
 use Rattle.std.proofs.Common.{◌≡◌, ℕ, ◌+◌, ◌-◌, ◌<◌, ◌≤◌, true, leb, List, [], ◌∷◌, ◌++◌, map, length, take, sym, refl, ap, ◌∙◌, arith, lit≤}
+use Rattle.std.specs.List.{list_all}
 use Rattle.std.proofs.lemmas.List.{length_push, get_or_push, take_at, take_all, take_more}
 use Rattle.std.proofs.lemmas.Bool.{and_from, le-leb}
 use Rattle.exchange.specs.Exchanges.{Declaration, Step, Session, Claim}
-use Rattle.exchange.specs.Rules.{each, once, role_variables, role_at, within, declaration_fits, message_fits, step_fits, role_fits, session_fits, claim_fits}
+use Rattle.exchange.specs.Rules.{once, role_variables, role_at, within, declaration_fits, message_fits, step_fits, role_fits, session_fits, claim_fits}
 use Rattle.exchange.proofs.Each.{each_push}
 
 -- the role that was begun last
@@ -33,31 +34,31 @@ some_role_lem (r ∷ rest) h = omega arith
 
 -- the declarations fit, and no atom is declared twice
 pub record Declared (atoms : List Declaration) : Type 0 where
-  pub declarations : each declaration_fits atoms ≡ true
+  pub declarations : list_all declaration_fits atoms ≡ true
   pub declared_once : once (map (λ d. d.atom) atoms) ≡ true
 
 -- the opening messages fit, and are not too many
 pub record Opened (names : List ℕ) (opening : List (List ℕ)) : Type 0 where
-  pub messages : each (message_fits names) opening ≡ true
+  pub messages : list_all (message_fits names) opening ≡ true
   pub few_messages : length opening ≤ 32
 
 -- the roles fit, but the last one may still have no step
 pub record Played (names : List ℕ) (roles : List (List Step)) : Type 0 where
-  pub front : each (role_fits names) (front_of roles) ≡ true
+  pub front : list_all (role_fits names) (front_of roles) ≡ true
   pub few_steps : length (last_of roles) ≤ 12
-  pub steps : each (step_fits names) (last_of roles) ≡ true
+  pub steps : list_all (step_fits names) (last_of roles) ≡ true
   pub few_variables : leb (length (role_variables (last_of roles))) 8 ≡ true
   pub few_roles : length roles ≤ 4
 
 -- the sessions fit, are not too many, and come after a role with a step
 pub record Run (names : List ℕ) (roles : List (List Step)) (sessions : List Session) : Type 0 where
-  pub fit : each (session_fits names roles) sessions ≡ true
+  pub fit : list_all (session_fits names roles) sessions ≡ true
   pub few_sessions : length sessions ≤ 8
   pub some_step : 1 ≤ length sessions → 1 ≤ length (last_of roles)
 
 -- the claims fit, are not too many, and come after a session
 pub record Claimed (names : List ℕ) (roles : List (List Step)) (sessions : List Session) (claims : List Claim) : Type 0 where
-  pub fit : each (claim_fits names roles sessions) claims ≡ true
+  pub fit : list_all (claim_fits names roles sessions) claims ≡ true
   pub few_claims : length claims ≤ 8
   pub some_session : 1 ≤ length claims → 1 ≤ length sessions
 
@@ -78,14 +79,14 @@ pub claimed_none : (names : List ℕ) (roles : List (List Step)) (sessions : Lis
 claimed_none names roles sessions = record { fit = refl; few_claims = lit≤ tt; some_session = λ h. absurd (omega arith) }
 
 -- a last role with a step fits, and so do all
-pub roles_fit : (names : List ℕ) (roles : List (List Step)) → Played names roles → 1 ≤ length (last_of roles) → each (role_fits names) roles ≡ true
+pub roles_fit : (names : List ℕ) (roles : List (List Step)) → Played names roles → 1 ≤ length (last_of roles) → list_all (role_fits names) roles ≡ true
 roles_fit names roles p h =
     let size : within 1 12 (length (last_of roles)) ≡ true = and_from _ _ (le-leb 1 (length (last_of roles)) h) (le-leb (length (last_of roles)) 12 p.few_steps) in
     let last : role_fits names (last_of roles) ≡ true = and_from _ _ size (and_from _ _ p.steps p.few_variables) in
-    ap (each (role_fits names)) (front_last roles (some_role_lem roles h)) ∙ each_push (role_fits names) (front_of roles) (last_of roles) p.front last
+    ap (list_all (role_fits names)) (front_last roles (some_role_lem roles h)) ∙ each_push (role_fits names) (front_of roles) (last_of roles) p.front last
 
 -- a last role that is new or has one step more
-pub played_push : (names : List ℕ) (front : List (List Step)) (r : List Step) → each (role_fits names) front ≡ true → length r ≤ 12 → each (step_fits names) r ≡ true → leb (length (role_variables r)) 8 ≡ true → length front < 4 → Played names (front ++ r ∷ [])
+pub played_push : (names : List ℕ) (front : List (List Step)) (r : List Step) → list_all (role_fits names) front ≡ true → length r ≤ 12 → list_all (step_fits names) r ≡ true → leb (length (role_variables r)) 8 ≡ true → length front < 4 → Played names (front ++ r ∷ [])
 played_push names front r before short fits few room = record {
   front = rw (front_push front r) before;
   few_steps = rw (last_push front r) short;

@@ -1,6 +1,6 @@
 -- The field of each part passes every check, where the part keeps its rules. Assumes nothing.
 use Rattle.std.proofs.Common.{◌≡◌, ℕ, suc, ◌-◌, ◌%◌, ◌<◌, ◌≤◌, true, false, ◌&&◌, ◌||◌, ltb, leb, List, [], ◌∷◌, ◌++◌, map, length, take, Ok, Option, sym, refl, ap, ◌∙◌, append_assoc, append-nil, arith}
-use Rattle.std.specs.List.{flat_map}
+use Rattle.std.specs.List.{flat_map, list_all}
 use Rattle.std.proofs.lemmas.List.{length_push, get_or_push, take_at}
 use Rattle.std.proofs.lemmas.Bool.{and_from, and_parts, or_right, le-leb, leb-true, lt-ltb}
 use Rattle.message.specs.Bytes.{is_atom}
@@ -11,7 +11,7 @@ use Rattle.exchange.specs.declared.tag.Tag.{Tag}
 use Rattle.exchange.specs.declared.tag.Tag.TheVariants.{AtomTag, OpeningTag, RoleTag, StepTag, SessionTag, ClaimTag, EndTag}
 use Rattle.exchange.specs.Exchanges.{Declaration, Step, sends, receives, begins, ends, Binding, Session, Claim, secret, session_secret, matched, matched_once, Exchange}
 use Rattle.exchange.specs.Files.{step_value, binding_bytes, claim_value}
-use Rattle.exchange.specs.Rules.{each, ascending, started, within, is_label_byte, uses_declared, form_in, mark_fits, role_variables, role_at, session_at, fillable, few_new, declaration_fits, message_fits, step_fits, role_fits, binding_fits, starts_fit, session_fits, claim_fits}
+use Rattle.exchange.specs.Rules.{ascending, started, within, is_label_byte, uses_declared, form_in, mark_fits, role_variables, role_at, session_at, fillable, few_new, declaration_fits, message_fits, step_fits, role_fits, binding_fits, starts_fit, session_fits, claim_fits}
 use Rattle.exchange.specs.Checks.{then, takes, item_of, value_item, opens, does, claims, is_next, pair_fits, bindings_of, adds}
 use Rattle.exchange.proofs.Each.{each_at, form_short}
 use Rattle.exchange.proofs.Pairs.{pairs_length}
@@ -23,25 +23,25 @@ made atoms opening roles sessions claimed = record { atoms = atoms; opening = op
 
 -- a number from low to high
 pub within_from : (low high n : ℕ) → low ≤ n → n ≤ high → within low high n ≡ true
-within_from low high n h k = and_from (leb low n) (leb n high) (le-leb low n h) (le-leb n high k)
+within_from low high n h k = and_from _ _ (le-leb low n h) (le-leb n high k)
 
 -- and back
 pub within_both : (low high n : ℕ) → within low high n ≡ true → (low ≤ n) × (n ≤ high)
-within_both low high n e = let parts = and_parts (leb low n) (leb n high) e in (leb-true low n parts.0, leb-true n high parts.1)
+within_both low high n e = let parts = and_parts _ _ e in (leb-true low n parts.0, leb-true n high parts.1)
 
 -- the last role of roles that keep their rules has a step
-last_has_steps : (names : List ℕ) (roles : List (List Step)) → 1 ≤ length roles → each (role_fits names) roles ≡ true → leb 1 (length (role_at roles (length roles - 1))) ≡ true
+last_has_steps : (names : List ℕ) (roles : List (List Step)) → 1 ≤ length roles → list_all (role_fits names) roles ≡ true → leb 1 (length (role_at roles (length roles - 1))) ≡ true
 last_has_steps names roles some fit =
     let steps = role_at roles (length roles - 1) in
     let fits = each_at (role_fits names) roles (length roles - 1) [] (omega arith) fit in
-    let size = (and_parts (within 1 12 (length steps)) (each (step_fits names) steps && leb (length (role_variables steps)) 8) fits).0 in
-    (and_parts (leb 1 (length steps)) (leb (length steps) 12) size).0
+    let size = (and_parts _ _ fits).0 in
+    (and_parts _ _ size).0
 
 -- the value of a step says that step
 step_item_lem : (names : List ℕ) (s : Step) → step_fits names s ≡ true → item_of StepTag (step_value s) ≡ Ok (does s)
 step_item_lem names s fits =
-    let parts = and_parts (mark_fits s) (is_form (form_in s) && uses_declared names (form_in s)) fits in
-    go s parts.0 (form_short (form_in s) (and_parts (is_form (form_in s)) (uses_declared names (form_in s)) parts.1).0)
+    let parts = and_parts _ _ fits in
+    go s parts.0 (form_short (form_in s) (and_parts _ _ parts.1).0)
   where
     go : (s : Step) → mark_fits s ≡ true → (1 ≤ length (form_in s)) × (length (form_in s) ≤ 24) → item_of StepTag (step_value s) ≡ Ok (does s)
     go (sends f) mark size = simp (within_from 2 26 (suc (length f)) (omega arith) (omega arith))
@@ -53,18 +53,18 @@ step_item_lem names s fits =
 next_ascends : (got : List Binding) (b : Binding) (more : List Binding) → ascending (started (got ++ b ∷ more)) ≡ true → is_next got b.variable ≡ true
 next_ascends [] b more e = refl
 next_ascends (c ∷ []) b more e =
-    let larger = (and_parts (each (ltb c.variable) (started (b ∷ more))) (ascending (started (b ∷ more))) e).0 in
-    (and_parts (ltb c.variable b.variable) (each (ltb c.variable) (started more)) larger).0
+    let larger = (and_parts _ _ e).0 in
+    (and_parts _ _ larger).0
 next_ascends (c ∷ (d ∷ got)) b more e =
     let rest = d ∷ (got ++ b ∷ more) in
-    next_ascends (d ∷ got) b more (and_parts (each (ltb c.variable) (started rest)) (ascending (started rest)) e).1
+    next_ascends (d ∷ got) b more (and_parts _ _ e).1
 
 -- the pairs of bindings are read as these bindings
-bindings_back : (names : List ℕ) (steps : List Step) (got more : List Binding) → ascending (started (got ++ more)) ≡ true → each (binding_fits names steps) more ≡ true → bindings_of names steps got (flat_map binding_bytes more) ≡ Ok (got ++ more)
+bindings_back : (names : List ℕ) (steps : List Step) (got more : List Binding) → ascending (started (got ++ more)) ≡ true → list_all (binding_fits names steps) more ≡ true → bindings_of names steps got (flat_map binding_bytes more) ≡ Ok (got ++ more)
 unfolding bindings_of
 bindings_back names steps got [] up fit = ap Ok (sym (append-nil got))
 bindings_back names steps got (b ∷ more) up fit =
-    let both = and_parts (binding_fits names steps b) (each (binding_fits names steps) more) fit in
+    let both = and_parts (binding_fits names steps b) (list_all (binding_fits names steps) more) fit in
     let own = and_parts (among b.variable (role_variables steps)) (among b.atom names && of_kind b.variable b.atom) both.0 in
     let atom = and_parts (among b.atom names) (of_kind b.variable b.atom) own.1 in
     let next = next_ascends got b more up in
@@ -77,7 +77,7 @@ bindings_back names steps got (b ∷ more) up fit =
 -- the value of a claim says that claim
 claim_item_lem : (names : List ℕ) (roles : List (List Step)) (sessions : List Session) (c : Claim) → claim_fits names roles sessions c ≡ true → item_of ClaimTag (claim_value c) ≡ Ok (claims c)
 claim_item_lem names roles sessions (secret m) fits =
-    let size = form_short m (and_parts (is_form m) (closed m && uses_declared names m) fits).0 in
+    let size = form_short m (and_parts _ _ fits).0 in
     simp (within_from 2 25 (suc (length m)) (omega arith) (omega arith))
 claim_item_lem names roles sessions (session_secret s v) fits = refl
 claim_item_lem names roles sessions (matched mark) fits = simp fits
@@ -88,8 +88,8 @@ module _ (last : Option Tag) where
   pub takes_declaration : (pre : List Declaration) (d : Declaration) → last_byte last ≤ 1 → declaration_fits d ≡ true → among d.atom (map (λ e. e.atom) pre) ≡ false
       → takes last (made pre [] [] [] []) AtomTag (d.atom ∷ d.label) ≡ Ok (made (pre ++ d ∷ []) [] [] [] [])
   takes_declaration pre d h fits new =
-      let parts = and_parts (is_atom d.atom) (each is_label_byte d.label && within 1 12 (length d.label)) fits in
-      let text = and_parts (each is_label_byte d.label) (within 1 12 (length d.label)) parts.1 in
+      let parts = and_parts (is_atom d.atom) (list_all is_label_byte d.label && within 1 12 (length d.label)) fits in
+      let text = and_parts (list_all is_label_byte d.label) (within 1 12 (length d.label)) parts.1 in
       let size = within_both 1 12 (length d.label) text.1 in
       let may = follows last AtomTag (omega arith) (omega arith) in
       let sized = within_from 2 13 (suc (length d.label)) (omega arith) (omega arith) in
@@ -114,7 +114,7 @@ module _ (last : Option Tag) where
       item_of_lem (b ∷ bs) h = refl
 
   -- the beginning of a role
-  pub takes_role : (atoms : List Declaration) (opening : List (List ℕ)) (pre : List (List Step)) (names : List ℕ) → last_byte last ≤ 4 → length pre < 4 → each (role_fits names) pre ≡ true
+  pub takes_role : (atoms : List Declaration) (opening : List (List ℕ)) (pre : List (List Step)) (names : List ℕ) → last_byte last ≤ 4 → length pre < 4 → list_all (role_fits names) pre ≡ true
       → takes last (made atoms opening pre [] []) RoleTag [] ≡ Ok (made atoms opening (pre ++ [] ∷ []) [] [])
   takes_role atoms opening pre names h room fit =
       let may = role_follows last h in
@@ -122,7 +122,7 @@ module _ (last : Option Tag) where
       let few = lt-ltb (length pre) 4 room in
       simp (may, due, few)
     where
-      ready : (pre : List (List Step)) → each (role_fits names) pre ≡ true → (leb (length pre) 0 || leb 1 (length (role_at pre (length pre - 1)))) ≡ true
+      ready : (pre : List (List Step)) → list_all (role_fits names) pre ≡ true → (leb (length pre) 0 || leb 1 (length (role_at pre (length pre - 1)))) ≡ true
       ready [] e = refl
       ready (r ∷ pre) e = or_right (leb (length (r ∷ pre)) 0) (leb 1 (length (role_at (r ∷ pre) (length (r ∷ pre) - 1)))) (last_has_steps names (r ∷ pre) (omega arith) e)
 
@@ -147,16 +147,16 @@ module _ (last : Option Tag) where
 
   -- a session
   pub takes_session : (atoms : List Declaration) (opening : List (List ℕ)) (roles : List (List Step)) (pre : List Session) (s : Session) → last_byte last ≤ 5 → length pre < 8
-      → 1 ≤ length roles → each (role_fits (map (λ d. d.atom) atoms)) roles ≡ true → session_fits (map (λ d. d.atom) atoms) roles s ≡ true
+      → 1 ≤ length roles → list_all (role_fits (map (λ d. d.atom) atoms)) roles ≡ true → session_fits (map (λ d. d.atom) atoms) roles s ≡ true
       → takes last (made atoms opening roles pre []) SessionTag (s.role ∷ flat_map binding_bytes s.starts) ≡ Ok (made atoms opening roles (pre ++ s ∷ []) [])
   takes_session atoms opening roles pre s h room some fit fits =
       let names = map (λ (d : Declaration). d.atom) atoms in
       let steps = role_at roles s.role in
       let starts = s.starts in
       let parts = and_parts (ltb s.role (length roles)) (starts_fit names steps starts) fits in
-      let count = and_parts (leb (length starts) 8) (ascending (started starts) && (each (binding_fits names steps) starts && (fillable steps starts && few_new steps starts))) parts.1 in
-      let order = and_parts (ascending (started starts)) (each (binding_fits names steps) starts && (fillable steps starts && few_new steps starts)) count.1 in
-      let pairs = and_parts (each (binding_fits names steps) starts) (fillable steps starts && few_new steps starts) order.1 in
+      let count = and_parts (leb (length starts) 8) (ascending (started starts) && (list_all (binding_fits names steps) starts && (fillable steps starts && few_new steps starts))) parts.1 in
+      let order = and_parts (ascending (started starts)) (list_all (binding_fits names steps) starts && (fillable steps starts && few_new steps starts)) count.1 in
+      let pairs = and_parts (list_all (binding_fits names steps) starts) (fillable steps starts && few_new steps starts) order.1 in
       let follow = and_parts (fillable steps starts) (few_new steps starts) pairs.1 in
       let most = leb-true (length starts) 8 count.0 in
       let may = follows last SessionTag (omega arith) (omega arith) in

@@ -1,6 +1,7 @@
 -- What is known where a row of checks refused nothing.
-use Rattle.std.proofs.Common.{◌≡◌, ℕ, Bool, true, false, Some, None, Ok, Err, Option, Result, refl, arith}
+use Rattle.std.proofs.Common.{◌≡◌, ℕ, Bool, true, false, Some, None, Ok, Err, Option, Result, sym, refl, subst, arith}
 use Rattle.std.specs.Option.{ok_or}
+use Rattle.std.specs.Result.{MatchResult, IsErrAnd}
 use Rattle.message.specs.declared.stop.Stop.{Stop}
 use Rattle.exchange.specs.Checks.{unless, then}
 
@@ -31,3 +32,8 @@ ok_or_ok None stop y e = absurd (not_ok stop y e)
 pub either_way : {A : Type 0} (P : Type 0) (test : Bool) (here next y : A) → (test ≡ true → here ≡ y → P) → (next ≡ y → P) → elim test as (λ _. A) [ true ↦ here | false ↦ next ] ≡ y → P
 either_way P true here next y f g e = f refl e
 either_way P false here next y f g e = g e
+
+-- what holds of a refusal holds of it where it was handed on
+pub handed_on : {A : Type 0} (r : Result A Stop) (P : A → Type 0) (Q : Stop → Type 0) (stop : Stop) → IsErrAnd r (λ y. y ≡ stop) → Q stop → MatchResult r P Q
+handed_on (Ok x) P Q stop h q = absurd h
+handed_on (Err y) P Q stop h q = subst Q (sym h) q

@@ -1,6 +1,7 @@
 -- The file of an exchange that keeps every rule loads as that exchange. Assumes nothing.
-use Rattle.std.proofs.Common.{◌≡◌, ℕ, suc, ◌<◌, ◌≤◌, Bool, true, false, ◌&&◌, leb, List, [], ◌∷◌, ◌++◌, map, length, Some, None, sym, refl, ap, ◌∙◌, append_assoc, arith}
-use Rattle.std.specs.List.{flat_map}
+use Rattle.std.proofs.Common.{◌≡◌, ℕ, suc, ◌<◌, ◌≤◌, Bool, true, false, List, [], ◌∷◌, ◌++◌, map, length, Some, None, sym, refl, ap, ◌∙◌, append_assoc, arith}
+use Rattle.std.proofs.lemmas.Grind.{flat_map-append}
+use Rattle.std.specs.List.{flat_map, list_all}
 use Rattle.std.proofs.lemmas.List.{length-append, map-append}
 use Rattle.std.proofs.lemmas.Bool.{and_parts, leb-true, le-leb}
 use Rattle.message.specs.declared.stop.Stop.TheVariants.{FileTooLong}
@@ -8,10 +9,10 @@ use Rattle.message.specs.Variables.{firsts}
 use Rattle.exchange.specs.declared.tag.Tag.TheVariants.{AtomTag, OpeningTag, RoleTag, StepTag, SessionTag, ClaimTag, EndTag}
 use Rattle.exchange.specs.Exchanges.{Declaration, Step, Session, Claim, Exchange}
 use Rattle.exchange.specs.Files.{field, declaration_field, opening_field, step_value, step_field, role_fields, binding_bytes, session_field, claim_value, claim_field, file_bytes}
-use Rattle.exchange.specs.Rules.{each, once, atoms_of, within, form_in, role_variables, declaration_fits, message_fits, step_fits, role_fits, session_fits, claim_fits, Fit}
+use Rattle.exchange.specs.Rules.{once, atoms_of, form_in, role_variables, declaration_fits, message_fits, step_fits, role_fits, session_fits, claim_fits, Fit}
 use Rattle.exchange.specs.Checks.{Outcome, refused, reading, blank}
 use Rattle.exchange.specs.Lossless.{Restores}
-use Rattle.exchange.proofs.Each.{each_parts, each_between, joined_append, once_new, firsts_grow}
+use Rattle.exchange.proofs.Each.{each_parts, each_between, once_new, firsts_grow}
 use Rattle.exchange.proofs.Onward.{After, ends_field, ends_all, after_each}
 use Rattle.exchange.proofs.Passing.{made, within_both, takes_declaration, takes_opening, takes_role, takes_step, takes_session, takes_claim, takes_end}
 use Rattle.exchange.proofs.Sizes.{file_short}
@@ -21,13 +22,13 @@ fewer : {A : Type 0} (pre : List A) (a : A) (post all : List A) → pre ++ a ∷
 fewer pre a post all e = omega (arith, length-append pre (a ∷ post), ap length e)
 
 -- an element of a list whose elements all pass
-passes : {A : Type 0} (test : A → Bool) (pre : List A) (a : A) (post all : List A) → pre ++ a ∷ post ≡ all → each test all ≡ true → test a ≡ true
-passes test pre a post all e fit = each_between test pre a post (ap (each test) e ∙ fit)
+passes : {A : Type 0} (test : A → Bool) (pre : List A) (a : A) (post all : List A) → pre ++ a ∷ post ≡ all → list_all test all ≡ true → test a ≡ true
+passes test pre a post all e fit = each_between test pre a post (ap (list_all test) e ∙ fit)
 
 -- a role so far has no more variables than the role
 fewer_variables : (pre : List Step) (s : Step) (post all : List Step) → pre ++ s ∷ post ≡ all → length (role_variables (pre ++ s ∷ [])) ≤ length (role_variables all)
 fewer_variables pre s post all e =
-    let whole : flat_map form_in (pre ++ s ∷ []) ++ flat_map form_in post ≡ flat_map form_in all = sym (joined_append form_in (pre ++ s ∷ []) post) ∙ ap (flat_map form_in) (append_assoc pre (s ∷ []) post ∙ e) in
+    let whole : flat_map form_in (pre ++ s ∷ []) ++ flat_map form_in post ≡ flat_map form_in all = sym (flat_map-append form_in (pre ++ s ∷ []) post) ∙ ap (flat_map form_in) (append_assoc pre (s ∷ []) post ∙ e) in
     omega (arith, firsts_grow (flat_map form_in (pre ++ s ∷ [])) (flat_map form_in post), ap (λ bs. length (firsts bs)) whole)
 
 -- the fields from a part on, up to the end
@@ -89,13 +90,13 @@ module _ (x : Exchange) (fit : Fit x) where
       one pre steps post e rest next last h =
           let fits = passes (role_fits (atoms_of x)) pre steps post x.roles e fit.roles in
           ends_field last (state pre) (state (pre ++ [] ∷ [])) x RoleTag [] (flat_map step_field steps ++ rest)
-          (takes_role last x.atoms x.opening pre (atoms_of x) h (omega (arith, fewer pre steps post x.roles e, fit.few_roles)) (each_parts (role_fits (atoms_of x)) pre (steps ∷ post) (ap (each (role_fits (atoms_of x))) e ∙ fit.roles)).0)
+          (takes_role last x.atoms x.opening pre (atoms_of x) h (omega (arith, fewer pre steps post x.roles e, fit.few_roles)) (each_parts (role_fits (atoms_of x)) pre (steps ∷ post) (ap (list_all (role_fits (atoms_of x))) e ∙ fit.roles)).0)
           (after_each step_field 4 (λ done. state (pre ++ done ∷ [])) steps x (step fits) [] steps refl rest next (Some RoleTag) (omega arith))
         where
           step : role_fits (atoms_of x) steps ≡ true → (done : List Step) (s : Step) (more : List Step) → done ++ s ∷ more ≡ steps → (rest : List ℕ) → After 4 rest (state (pre ++ (done ++ s ∷ []) ∷ [])) x → After 4 (step_field s ++ rest) (state (pre ++ done ∷ [])) x
           step fits done s more e rest next last h =
-              let parts = and_parts (within 1 12 (length steps)) (each (step_fits (atoms_of x)) steps && leb (length (role_variables steps)) 8) fits in
-              let own = and_parts (each (step_fits (atoms_of x)) steps) (leb (length (role_variables steps)) 8) parts.1 in
+              let parts = and_parts _ _ fits in
+              let own = and_parts _ _ parts.1 in
               ends_field last (state (pre ++ done ∷ [])) (state (pre ++ (done ++ s ∷ []) ∷ [])) x StepTag (step_value s) rest
               (takes_step last x.atoms x.opening pre done s h (omega (arith, fewer done s more steps e, within_both 1 12 (length steps) parts.0)) (passes (step_fits (atoms_of x)) done s more steps e own.0) (omega (arith, fewer_variables done s more steps e, leb-true (length (role_variables steps)) 8 own.1)))
               (next (Some StepTag) (omega arith))

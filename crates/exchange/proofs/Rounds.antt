@@ -1,9 +1,10 @@
 -- One turn of reading a file, where enough turns are left.
 use Rattle.std.proofs.Common.{◌≡◌, ℕ, zero, suc, ◌+◌, ◌<◌, ◌≤◌, true, false, ◌&&◌, leb, List, length, drop, Some, Ok, Err, Option, Result, sym, ap, ◌∙◌, arith}
+use Rattle.std.specs.Result.{MatchResult, IsErrAnd}
+use Rattle.std.proofs.lemmas.Result.{err_from_is_err_and}
 use Rattle.message.specs.declared.stop.Stop.{Stop}
 use Rattle.exchange.specs.declared.refusal.Refusal.{Refusal}
 use Rattle.exchange.specs.declared.tag.Tag.{Tag}
-use Rattle.exchange.specs.Answers.{placed_at}
 use Rattle.exchange.specs.Checks.{Turn, turn, Outcome, accepted, refused, is_end, onward, reading}
 use Rattle.exchange.specs.Exchanges.{Exchange}
 
@@ -34,11 +35,14 @@ unfolding reading
 round_ends zero file at last x h k e = absurd (omega arith)
 round_ends (suc n) file at last x h k e = sym (ap (λ b. elim b as (λ _. Outcome) [ true ↦ accepted x | false ↦ goes_on n file at last x ]) e)
 
--- what was placed came, or was refused there
-pub placed_ok : {A : Type 0} (r : Result A Stop) (place : ℕ) (x : A) → Ok x ≡ placed_at r place → r ≡ Ok x
-placed_ok (Ok y) place x e = cc
-placed_ok (Err stop) place x e = let z : ◌≡◌ {A = ℕ} 0 1 = cc in absurd (omega arith)
+-- a refusal gets its place, and what came stays
+pub placed_ok : {A : Type 0} (P : Stop → Refusal → Type 0) (r : Result A Stop) (q : Result A Refusal) (x : A) → MatchResult r (λ y. q ≡ Ok y) (λ stop. IsErrAnd q (P stop)) → q ≡ Ok x → r ≡ Ok x
+placed_ok P (Ok y) q x h e = cc
+placed_ok P (Err stop) q x h e = let refused = err_from_is_err_and q h in let z : ◌≡◌ {A = ℕ} 0 1 = cc (refused.1) in absurd (omega arith)
 
-pub placed_err : {A : Type 0} (r : Result A Stop) (place : ℕ) (e : Refusal) → Err e ≡ placed_at r place → (r ≡ Err e.stop) × (e.place ≡ place)
-placed_err (Ok y) place e h = let z : ◌≡◌ {A = ℕ} 0 1 = cc in absurd (omega arith)
-placed_err (Err stop) place e h = let same : e ≡ record { stop = stop; place = place } = cc in (ap (λ f. Err f.stop) (sym same), ap (λ f. f.place) same)
+pub placed_err : {A : Type 0} (P : Stop → Refusal → Type 0) (r : Result A Stop) (q : Result A Refusal) (place : ℕ) (e : Refusal) → ((stop : Stop) (f : Refusal) → P stop f → f ≡ record { stop = stop; place = place }) → MatchResult r (λ y. q ≡ Ok y) (λ stop. IsErrAnd q (P stop)) → q ≡ Err e → (r ≡ Err e.stop) × (e.place ≡ place)
+placed_err P (Ok y) q place e gives h is = let z : ◌≡◌ {A = ℕ} 0 1 = cc in absurd (omega arith)
+placed_err P (Err stop) q place e gives h is =
+    let refused = err_from_is_err_and q h in
+    let same : e ≡ record { stop = stop; place = place } = cc (refused.1, gives stop refused.0 refused.2) in
+    (ap (λ f. Err f.stop) (sym same), ap (λ f. f.place) same)

@@ -1,13 +1,11 @@
 -- The file of an exchange that keeps every rule is not too long. Assumes nothing.
-use Rattle.std.proofs.Common.{◌≡◌, ℕ, ◌≤◌, true, ◌&&◌, ltb, leb, List, [], ◌++◌, length, arith}
+use Rattle.std.proofs.Common.{◌≡◌, ℕ, ◌≤◌, true, List, [], ◌++◌, length, arith}
 use Rattle.std.specs.List.{flat_map}
 use Rattle.std.proofs.lemmas.List.{length-append}
 use Rattle.std.proofs.lemmas.Bool.{and_parts, leb-true}
-use Rattle.message.specs.Bytes.{is_atom}
-use Rattle.message.specs.Trees.{is_form, closed}
 use Rattle.exchange.specs.Exchanges.{Declaration, Step, sends, receives, begins, ends, Session, Claim, secret, session_secret, matched, matched_once, Exchange}
 use Rattle.exchange.specs.Files.{field, declaration_field, opening_field, step_field, role_fields, session_field, claim_field, body_bytes, file_bytes}
-use Rattle.exchange.specs.Rules.{each, atoms_of, ascending, started, within, is_label_byte, uses_declared, form_in, mark_fits, role_variables, role_at, fillable, few_new, declaration_fits, message_fits, step_fits, role_fits, binding_fits, starts_fit, session_fits, claim_fits, Fit}
+use Rattle.exchange.specs.Rules.{atoms_of, form_in, role_at, declaration_fits, message_fits, step_fits, role_fits, session_fits, claim_fits, Fit}
 use Rattle.exchange.proofs.Apart.{atoms_few}
 use Rattle.exchange.proofs.Each.{joined_short, form_short}
 use Rattle.exchange.proofs.Pairs.{pairs_length}
@@ -17,17 +15,17 @@ use Rattle.exchange.proofs.Passing.{within_both}
 
 declaration_size : (d : Declaration) → declaration_fits d ≡ true → length (declaration_field d) ≤ 16
 declaration_size d fits =
-    let text = (and_parts (is_atom d.atom) (each is_label_byte d.label && within 1 12 (length d.label)) fits).1 in
-    omega (arith, within_both 1 12 (length d.label) (and_parts (each is_label_byte d.label) (within 1 12 (length d.label)) text).1)
+    let text = (and_parts _ _ fits).1 in
+    omega (arith, within_both 1 12 (length d.label) (and_parts _ _ text).1)
 
 module _ (names : List ℕ) where
   opening_size : (m : List ℕ) → message_fits names m ≡ true → length (opening_field m) ≤ 27
-  opening_size m fits = omega (arith, form_short m (and_parts (is_form m) (closed m && uses_declared names m) fits).0)
+  opening_size m fits = omega (arith, form_short m (and_parts _ _ fits).0)
 
   step_size : (s : Step) → step_fits names s ≡ true → length (step_field s) ≤ 29
   step_size s fits =
-      let form = (and_parts (mark_fits s) (is_form (form_in s) && uses_declared names (form_in s)) fits).1 in
-      go s (form_short (form_in s) (and_parts (is_form (form_in s)) (uses_declared names (form_in s)) form).0)
+      let form = (and_parts _ _ fits).1 in
+      go s (form_short (form_in s) (and_parts _ _ form).0)
     where
       go : (s : Step) → (1 ≤ length (form_in s)) × (length (form_in s) ≤ 24) → length (step_field s) ≤ 29
       go (sends f) h = omega arith
@@ -37,20 +35,20 @@ module _ (names : List ℕ) where
 
   role_size : (steps : List Step) → role_fits names steps ≡ true → length (role_fields steps) ≤ 351
   role_size steps fits =
-      let parts = and_parts (within 1 12 (length steps)) (each (step_fits names) steps && leb (length (role_variables steps)) 8) fits in
+      let parts = and_parts _ _ fits in
       let count = within_both 1 12 (length steps) parts.0 in
-      omega (arith, joined_short (step_fits names) step_field 29 step_size steps (and_parts (each (step_fits names) steps) (leb (length (role_variables steps)) 8) parts.1).0)
+      omega (arith, joined_short (step_fits names) step_field 29 step_size steps (and_parts _ _ parts.1).0)
 
   session_size : (roles : List (List Step)) (s : Session) → session_fits names roles s ≡ true → length (session_field s) ≤ 20
   session_size roles s fits =
       let steps = role_at roles s.role in
       let starts = s.starts in
-      let own = (and_parts (ltb s.role (length roles)) (starts_fit names steps starts) fits).1 in
-      let count = (and_parts (leb (length starts) 8) (ascending (started starts) && (each (binding_fits names steps) starts && (fillable steps starts && few_new steps starts))) own).0 in
+      let own = (and_parts _ _ fits).1 in
+      let count = (and_parts _ _ own).0 in
       omega (arith, pairs_length starts, leb-true (length starts) 8 count)
 
   claim_size : (roles : List (List Step)) (sessions : List Session) (c : Claim) → claim_fits names roles sessions c ≡ true → length (claim_field c) ≤ 28
-  claim_size roles sessions (secret m) fits = omega (arith, form_short m (and_parts (is_form m) (closed m && uses_declared names m) fits).0)
+  claim_size roles sessions (secret m) fits = omega (arith, form_short m (and_parts _ _ fits).0)
   claim_size roles sessions (session_secret s v) fits = omega arith
   claim_size roles sessions (matched mark) fits = omega arith
   claim_size roles sessions (matched_once mark) fits = omega arith

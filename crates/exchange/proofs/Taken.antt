@@ -1,5 +1,5 @@
 -- A field that is let through makes the exchange and its bytes one field longer.
-use Rattle.std.proofs.Common.{◌≡◌, ℕ, suc, ◌%◌, ◌≤◌, Bool, true, false, not, ◌&&◌, ◌||◌, eqb, leb, List, [], ◌∷◌, ◌++◌, length, Some, None, Ok, Option, sym, refl, ap, ◌∙◌, inl, inr, arith}
+use Rattle.std.proofs.Common.{◌≡◌, ℕ, suc, ◌%◌, ◌≤◌, Bool, true, false, ◌&&◌, eqb, leb, List, [], ◌∷◌, ◌++◌, length, Some, None, Ok, Option, sym, refl, ap, ◌∙◌, inl, inr, arith}
 use Rattle.std.proofs.lemmas.List.{append-nil}
 use Rattle.std.proofs.lemmas.Bool.{and_parts, and_from, or_cases, not-true, leb-true, ltb-true, eqb-true}
 use Rattle.message.specs.declared.stop.Stop.TheVariants.{MisplacedTag, WrongLength, LimitPassed, PartMissing}
@@ -31,17 +31,17 @@ written last x = body_bytes x ++ end_bytes (is_end last)
 follows : (last : Option Tag) (tag : Tag) → may_follow last tag ≡ true → (is_end last ≡ false) × Follows (byte_of last) (tag_byte tag)
 follows None tag e = (refl, inl (omega arith))
 follows (Some last) tag e =
-    let p = and_parts (not (eqb (tag_byte last) 0x7F)) (leb (tag_byte last) (tag_byte tag) || (eqb (tag_byte last) 0x04 && eqb (tag_byte tag) 0x03)) e in (
+    let p = and_parts _ _ e in (
       not-true (eqb (tag_byte last) 0x7F) p.0,
       elim (or_cases (leb (tag_byte last) (tag_byte tag)) (eqb (tag_byte last) 0x04 && eqb (tag_byte tag) 0x03) p.1) [
         | inl h ↦ inl (leb-true (tag_byte last) (tag_byte tag) h)
-        | inr h ↦ let q = and_parts (eqb (tag_byte last) 0x04) (eqb (tag_byte tag) 0x03) h in inr (eqb-true (tag_byte last) 0x04 q.0, eqb-true (tag_byte tag) 0x03 q.1)
+        | inr h ↦ let q = and_parts _ _ h in inr (eqb-true (tag_byte last) 0x04 q.0, eqb-true (tag_byte tag) 0x03 q.1)
       ],
     )
 
 -- a number within a range is at most its high end
 within_high : (low high n : ℕ) → within low high n ≡ true → n ≤ high
-within_high low high n e = leb-true n high (and_parts (leb low n) (leb n high) e).1
+within_high low high n e = leb-true n high (and_parts _ _ e).1
 
 -- no value is long
 value_short : (tag : Tag) (n : ℕ) → length_fits tag n ≡ true → n ≤ 26
@@ -49,7 +49,7 @@ value_short AtomTag n e = omega (arith, within_high 2 13 n e)
 value_short OpeningTag n e = omega (arith, within_high 1 24 n e)
 value_short RoleTag n e = omega (arith, eqb-true n 0 e)
 value_short StepTag n e = within_high 2 26 n e
-value_short SessionTag n e = omega (arith, within_high 1 17 n (and_parts (within 1 17 n) (eqb (n % 2) 1) e).0)
+value_short SessionTag n e = omega (arith, within_high 1 17 n (and_parts _ _ e).0)
 value_short ClaimTag n e = omega (arith, within_high 2 25 n e)
 value_short EndTag n e = omega (arith, eqb-true n 0 e)
 
@@ -68,7 +68,7 @@ module _ (n : ℕ) (x y : Exchange) (g : Grown n x) where
   takes_step value s is mark after due room e =
       let p = then_ok (form_of (atoms_of x) (form_in s)) _ y e in
       let q = unless_ok (leb (length (role_variables (last_role x ++ s ∷ []))) 8) LimitPassed (Ok (with_step x s)) y p.2 in
-      let fits = and_from (mark_fits s) _ mark (form_ok (atoms_of x) (form_in s) p.0 p.1) in
+      let fits = and_from _ _ mark (form_ok (atoms_of x) (form_in s) p.0 p.1) in
       let h = grows_step n x y g s after (leb-true 1 (length x.roles) due) (ltb-true (length (last_role x)) 12 room) fits q.0 (ok_same (with_step x s) y q.1) in
       rw is (record { grown = h.grown; longer = plain 4 _ h })
 
@@ -94,10 +94,10 @@ module _ (n : ℕ) (x y : Exchange) (g : Grown n x) where
       takes_step (b ∷ rest) s.step s.written s.mark after due room (ap (adds x) (sym s.is) ∙ p.2)
   takes_value SessionTag [] after due room size e = absurd (not_ok WrongLength y e)
   takes_value SessionTag (r ∷ bs) after due room size e =
-      let p = and_parts (within 1 17 (suc (length bs))) (eqb (suc (length bs) % 2) 1) size in
+      let p = and_parts _ _ size in
       let short = within_high 1 17 (suc (length bs)) p.0 in
       let odd = eqb-true (suc (length bs) % 2) 1 p.1 in
-      let some = (and_parts (leb 1 (length x.roles)) (leb 1 (length (last_role x))) due).1 in
+      let some = (and_parts _ _ due).1 in
       let h = grows_session n x y g r bs after (leb-true 1 (length (last_role x)) some) (ltb-true (length x.sessions) 8 room) (omega arith) (omega arith) e in
       record { grown = h.grown; longer = plain 5 _ h }
   takes_value ClaimTag [] after due room size e = absurd (not_ok WrongLength y e)

@@ -1,6 +1,5 @@
 -- What loading a file answers, and what is read of it.
-use Rattle.std.specs.Prelude.{ℕ, Ok, Err, Result}
-use Rattle.message.specs.declared.stop.Stop.{Stop}
+use Rattle.std.specs.Prelude.{Ok, Err, Result}
 use Rattle.exchange.specs.declared.refusal.Refusal.{Refusal}
 use Rattle.exchange.specs.Checks.{Outcome, accepted, refused}
 use Rattle.exchange.specs.Exchanges.{Exchange}
@@ -14,8 +13,3 @@ answer_to (refused stop place) = Err (record { stop = stop; place = place })
 abbrev pub outcome_of : Result (Unit {0}) Refusal → Exchange → Outcome
 outcome_of (Ok u) y = accepted y
 outcome_of (Err e) y = refused e.stop e.place
-
--- a refusal at a place
-abbrev pub placed_at : {A : Type 0} → Result A Stop → ℕ → Result A Refusal
-placed_at (Ok x) place = Ok x
-placed_at (Err stop) place = Err (record { stop = stop; place = place })

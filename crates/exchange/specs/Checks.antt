@@ -1,5 +1,6 @@
 -- How a file is read, check by check, in the order of the checks.
 use Rattle.std.specs.Prelude.{ℕ, zero, suc, ◌+◌, ◌-◌, ◌*◌, ◌%◌, Bool, true, false, not, ◌&&◌, ◌||◌, List, [], ◌∷◌, ◌++◌, length, take, drop, Some, None, Ok, Err, Option, Result, ◌==◌, nat_le, nat_lt}
+use Rattle.std.specs.List.{list_all}
 use Rattle.std.specs.Option.{ok_or}
 use Rattle.message.specs.declared.stop.Stop.{Stop}
 use Rattle.message.specs.declared.stop.Stop.TheVariants.{FileTooLong, Incomplete, MisplacedTag, WrongLength, BadLabel, NotOneForm, VariableInMessage, UndeclaredAtom, NotAscending, LimitPassed, PartMissing, OutOfRange, UnboundVariable, WrongKind, TooManyNewVariables}
@@ -10,7 +11,7 @@ use Rattle.message.specs.Variables.{among}
 use Rattle.exchange.specs.declared.tag.Tag.{Tag}
 use Rattle.exchange.specs.declared.tag.Tag.TheVariants.{AtomTag, OpeningTag, RoleTag, StepTag, SessionTag, ClaimTag, EndTag}
 use Rattle.exchange.specs.Exchanges.{Declaration, Step, sends, receives, begins, ends, Binding, Session, Claim, secret, session_secret, matched, matched_once, Exchange}
-use Rattle.exchange.specs.Rules.{each, atoms_of, is_label_byte, uses_declared, form_in, role_variables, fillable, few_new, role_at, session_at, within}
+use Rattle.exchange.specs.Rules.{atoms_of, is_label_byte, uses_declared, form_in, role_variables, fillable, few_new, role_at, session_at, within}
 
 -- go on where the test holds, else refuse
 abbrev pub unless : {A : Type 0} → Bool → Stop → Result A Stop → Result A Stop
@@ -259,7 +260,7 @@ abbrev pub add_declaration : Exchange → ℕ → List ℕ → Result Exchange S
 add_declaration x a label =
     unless (not (among a (atoms_of x))) NotAscending (
     unless (is_atom a) OutOfRange (
-    unless (each is_label_byte label) BadLabel (Ok (with_declaration x (record { atom = a; label = label })))))
+    unless (list_all is_label_byte label) BadLabel (Ok (with_declaration x (record { atom = a; label = label })))))
 
 abbrev pub add_step : Exchange → Step → Result Exchange Stop
 add_step x s =

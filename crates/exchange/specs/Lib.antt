@@ -6,6 +6,7 @@ pub mod Fields
 pub mod Files
 pub mod Labels
 pub mod Lossless
+pub mod Moments
 pub mod Names
 pub mod Parts
 pub mod Reading

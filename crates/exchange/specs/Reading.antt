@@ -1,6 +1,7 @@
 -- What the code read, as bytes.
 use Rattle.std.specs.Prelude.{ℕ, ◌<◌, ◌≤◌, List, [], ◌∷◌, ◌++◌, length, Some, None, Ok, Err, Option, Result, nat_le}
 use Rattle.std.specs.Borrow.{Bor}
+use Rattle.exchange.specs.declared.claim.Claim as code-claim
 use Rattle.exchange.specs.declared.session.Binding as code-binding
 use Rattle.exchange.specs.declared.session.Session as code
 use Rattle.message.specs.declared.closed.Message.{Message}
@@ -10,10 +11,11 @@ use Rattle.message.specs.declared.stop.Stop.TheVariants.{LimitPassed}
 use Rattle.message.specs.Forms.{text}
 use Rattle.message.specs.Messages.{message_text}
 use Rattle.exchange.specs.declared.tag.Tag.{Tag}
-use Rattle.exchange.specs.Checks.{unless, last_role, with_step, Item, declares, opens, role, does, runs, claims, finish, Turn}
-use Rattle.exchange.specs.Exchanges.{Step, Binding, Session, Exchange}
+use Rattle.exchange.specs.Checks.{unless, last_role, with_step, with_claim, Item, declares, opens, role, does, runs, claims, finish, Turn}
+use Rattle.exchange.specs.Exchanges.{Step, Binding, Exchange}
+use Rattle.exchange.specs.Parts.{claim_of}
 use Rattle.exchange.specs.Rules.{role_variables}
-use Rattle.exchange.specs.Sessions.{binding_of, starts_in, session_of}
+use Rattle.exchange.specs.Sessions.{binding_of, starts_in}
 
 abbrev pub read_form : Result Form Stop → Result (List ℕ) Stop
 read_form (Ok form) = Ok (text form)
@@ -23,6 +25,11 @@ abbrev pub read_message : Result Message Stop → Result (List ℕ) Stop
 read_message (Ok m) = Ok (message_text m)
 read_message (Err stop) = Err stop
 
+-- the exchange with the claim that was read, or the refusal
+abbrev pub with_read : Exchange → Result (code-claim.Claim Message) Stop → Result Exchange Stop
+with_read x (Ok c) = Ok (with_claim x (claim_of c))
+with_read x (Err stop) = Err stop
+
 abbrev pub read_binding : Result code-binding.Binding Stop → Result Binding Stop
 read_binding (Ok b) = Ok (binding_of b)
 read_binding (Err stop) = Err stop
@@ -30,10 +37,6 @@ read_binding (Err stop) = Err stop
 abbrev pub read_starts : Result code.Session Stop → Result (List Binding) Stop
 read_starts (Ok s) = Ok (starts_in s)
 read_starts (Err stop) = Err stop
-
-abbrev pub read_session : Result code.Session Stop → Result Session Stop
-read_session (Ok s) = Ok (session_of s)
-read_session (Err stop) = Err stop
 
 -- a part was added, and the exchange is this one now; or the refusal
 abbrev pub added : {A : Type 0} → Result A Stop → Exchange → Result Exchange Stop
@@ -50,7 +53,7 @@ Ready x (declares a label) = length label ≤ 12
 Ready x (opens m) = length x.opening < 32
 Ready x role = length x.roles < 4
 Ready x (does s) = (1 ≤ length x.roles) × (length (last_role x) < 12)
-Ready x (runs r bs) = (length x.sessions < 8) × (length bs ≤ 16)
+Ready x (runs r bs) = length x.sessions < 8
 Ready x (claims c) = length x.claims < 8
 Ready x finish = Unit {0}
 

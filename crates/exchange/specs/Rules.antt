@@ -1,16 +1,11 @@
 -- The rules that an exchange keeps, in the words of the subject.
 use Rattle.std.specs.Prelude.{◌≡◌, ℕ, zero, suc, ◌≤◌, Bool, true, not, ◌&&◌, ◌||◌, ltb, List, [], ◌∷◌, map, length, take, filter, nat_le, nat_lt, slice_index_or}
-use Rattle.std.specs.List.{flat_map}
+use Rattle.std.specs.List.{flat_map, list_all}
 use Rattle.message.specs.Bytes.{is_atom, is_variable}
 use Rattle.message.specs.Filling.{of_kind}
 use Rattle.message.specs.Trees.{is_form, closed}
 use Rattle.message.specs.Variables.{among, firsts}
 use Rattle.exchange.specs.Exchanges.{Declaration, Step, sends, receives, begins, ends, Binding, Session, Claim, secret, session_secret, matched, matched_once, Exchange}
-
--- the test holds of each element
-abbrev pub each : {A : Type 0} → (A → Bool) → List A → Bool
-each test [] = true
-each test (x ∷ xs) = test x && each test xs
 
 -- the test holds of each number below n
 abbrev pub each_below : ℕ → (ℕ → Bool) → Bool
@@ -37,7 +32,7 @@ abbrev pub is_declared : List ℕ → ℕ → Bool
 is_declared atoms b = not (is_atom b) || among b atoms
 
 abbrev pub uses_declared : List ℕ → List ℕ → Bool
-uses_declared atoms bs = each (is_declared atoms) bs
+uses_declared atoms bs = list_all (is_declared atoms) bs
 
 -- steps and roles
 
@@ -76,7 +71,7 @@ is_bound starts before v = among v (started starts) || among v (flat_map receive
 
 -- each variable of the bytes has a value after these steps
 abbrev pub all_bound : List Binding → List Step → List ℕ → Bool
-all_bound starts before bs = each (λ b. not (is_variable b) || is_bound starts before b) bs
+all_bound starts before bs = list_all (λ b. not (is_variable b) || is_bound starts before b) bs
 
 -- a step that comes after these can be filled: a send, begin or end has no variable without a value
 abbrev pub can_fill : List Binding → List Step → Step → Bool
@@ -100,13 +95,17 @@ binds_few starts before (ends mark f) = true
 abbrev pub step_at : List Step → ℕ → Step
 step_at steps line = slice_index_or steps line (sends [])
 
+-- a test holds of each step of a role, after the starting values and the steps before it
+abbrev pub throughout : (List Binding → List Step → Step → Bool) → List Step → List Binding → Bool
+throughout test steps starts = each_below (length steps) (λ line. test starts (take line steps) (step_at steps line))
+
 -- each send, begin and end of the role can be filled when it comes
 abbrev pub fillable : List Step → List Binding → Bool
-fillable steps starts = each_below (length steps) (λ line. can_fill starts (take line steps) (step_at steps line))
+fillable steps starts = throughout can_fill steps starts
 
 -- no receive of the role has more than 3 new variables
 abbrev pub few_new : List Step → List Binding → Bool
-few_new steps starts = each_below (length steps) (λ line. binds_few starts (take line steps) (step_at steps line))
+few_new steps starts = throughout binds_few steps starts
 
 -- sessions
 
@@ -121,7 +120,7 @@ session_at sessions s = slice_index_or sessions s (record { role = 0; starts = [
 -- each number is larger than all before it
 abbrev pub ascending : List ℕ → Bool
 ascending [] = true
-ascending (v ∷ vs) = each (ltb v) vs && ascending vs
+ascending (v ∷ vs) = list_all (ltb v) vs && ascending vs
 
 -- a variable of the role, with a declared atom of its kind
 abbrev pub binding_fits : List ℕ → List Step → Binding → Bool
@@ -135,7 +134,7 @@ within low high n = nat_le low n && nat_le n high
 
 -- an atom, with a label of 1 to 12 bytes
 abbrev pub declaration_fits : Declaration → Bool
-declaration_fits d = is_atom d.atom && (each is_label_byte d.label && within 1 12 (length d.label))
+declaration_fits d = is_atom d.atom && (list_all is_label_byte d.label && within 1 12 (length d.label))
 
 -- a message, of declared atoms
 abbrev pub message_fits : List ℕ → List ℕ → Bool
@@ -147,11 +146,11 @@ step_fits atoms s = mark_fits s && (is_form (form_in s) && uses_declared atoms (
 
 -- 1 to 12 steps with at most 8 variables between them
 abbrev pub role_fits : List ℕ → List Step → Bool
-role_fits atoms steps = within 1 12 (length steps) && (each (step_fits atoms) steps && nat_le (length (role_variables steps)) 8)
+role_fits atoms steps = within 1 12 (length steps) && (list_all (step_fits atoms) steps && nat_le (length (role_variables steps)) 8)
 
 -- starting values for some of a role's variables, in ascending order, with which the role can be followed
 abbrev pub starts_fit : List ℕ → List Step → List Binding → Bool
-starts_fit atoms steps starts = nat_le (length starts) 8 && (ascending (started starts) && (each (binding_fits atoms steps) starts && (fillable steps starts && few_new steps starts)))
+starts_fit atoms steps starts = nat_le (length starts) 8 && (ascending (started starts) && (list_all (binding_fits atoms steps) starts && (fillable steps starts && few_new steps starts)))
 
 -- a role that there is, and such values
 abbrev pub session_fits : List ℕ → List (List Step) → Session → Bool
@@ -166,25 +165,25 @@ claim_fits atoms roles sessions (matched_once mark) = nat_lt mark 16
 
 -- an exchange that keeps every rule
 pub record Fit (x : Exchange) : Type 0 where
-  pub declarations : each declaration_fits x.atoms ≡ true
+  pub declarations : list_all declaration_fits x.atoms ≡ true
   pub declared_once : once (atoms_of x) ≡ true
-  pub messages : each (message_fits (atoms_of x)) x.opening ≡ true
+  pub messages : list_all (message_fits (atoms_of x)) x.opening ≡ true
   pub few_messages : length x.opening ≤ 32
-  pub roles : each (role_fits (atoms_of x)) x.roles ≡ true
+  pub roles : list_all (role_fits (atoms_of x)) x.roles ≡ true
   pub some_role : 1 ≤ length x.roles
   pub few_roles : length x.roles ≤ 4
-  pub sessions : each (session_fits (atoms_of x) x.roles) x.sessions ≡ true
+  pub sessions : list_all (session_fits (atoms_of x) x.roles) x.sessions ≡ true
   pub some_session : 1 ≤ length x.sessions
   pub few_sessions : length x.sessions ≤ 8
-  pub claims : each (claim_fits (atoms_of x) x.roles x.sessions) x.claims ≡ true
+  pub claims : list_all (claim_fits (atoms_of x) x.roles x.sessions) x.claims ≡ true
   pub some_claim : 1 ≤ length x.claims
   pub few_claims : length x.claims ≤ 8
 
 -- the same as one test
 abbrev pub is_fit : Exchange → Bool
 is_fit x =
-    each declaration_fits x.atoms && (once (atoms_of x)
-    && (each (message_fits (atoms_of x)) x.opening && (nat_le (length x.opening) 32
-    && (each (role_fits (atoms_of x)) x.roles && (within 1 4 (length x.roles)
-    && (each (session_fits (atoms_of x) x.roles) x.sessions && (within 1 8 (length x.sessions)
-    && (each (claim_fits (atoms_of x) x.roles x.sessions) x.claims && within 1 8 (length x.claims)))))))))
+    list_all declaration_fits x.atoms && (once (atoms_of x)
+    && (list_all (message_fits (atoms_of x)) x.opening && (nat_le (length x.opening) 32
+    && (list_all (role_fits (atoms_of x)) x.roles && (within 1 4 (length x.roles)
+    && (list_all (session_fits (atoms_of x) x.roles) x.sessions && (within 1 8 (length x.sessions)
+    && (list_all (claim_fits (atoms_of x) x.roles x.sessions) x.claims && within 1 8 (length x.claims)))))))))

@@ -1,6 +1,7 @@
 -- What a store holds, and what its calls answer and leave.
 use Rattle.std.specs.Prelude.{ℕ, true, false, List, ◌++◌, length, drop, Some, None, Ok, Err, Option, Result, nat_le}
 use Rattle.std.specs.Borrow.{Bor}
+use Rattle.std.specs.Option.{option_map}
 use Rattle.message.specs.declared.stop.Stop.{Stop}
 use Rattle.message.specs.declared.stop.Stop.TheVariants.{BufferTooSmall, NoExchange}
 use Rattle.exchange.specs.declared.exchange.Exchange as code
@@ -12,7 +13,7 @@ use Rattle.exchange.specs.Views.{exchange_of}
 
 -- the exchange that is loaded, if any
 abbrev pub held : Store → Option Exchange
-held s = elim s.loaded [ true ↦ Some (exchange_of s.exchange) | false ↦ None ]
+held s = option_map (λ _. exchange_of s.exchange) s.size
 
 -- a file that is accepted takes the place of what was held; one that is refused leaves it
 abbrev pub held_after : Option Exchange → Outcome → Option Exchange

@@ -1,8 +1,9 @@
 // An exchange as a value.
 ghost use Rattle.std.specs.Prelude.{◌≡◌, ◌≤◌, true, map, vec_capacity};
+ghost use Rattle.std.specs.List.{list_all};
 ghost use Rattle.message.specs.Bytes.{is_atom};
 ghost use Rattle.exchange.specs.Atoms.{atoms_in};
-ghost use Rattle.exchange.specs.Rules.{each, once};
+ghost use Rattle.exchange.specs.Rules.{once};
 
 use crate::claim::Claim;
 use crate::declaration::Declaration;
@@ -32,6 +33,6 @@ pub struct Exchange {
     ghost role_room: { 4 ≤ vec_capacity roles },
     ghost session_room: { 8 ≤ vec_capacity sessions },
     ghost claim_room: { 8 ≤ vec_capacity claims },
-    ghost atoms_are: { each is_atom (atoms_in atoms.items) ≡ true },
+    ghost atoms_are: { list_all is_atom (atoms_in atoms.items) ≡ true },
     ghost atoms_once: { once (atoms_in atoms.items) ≡ true },
 }

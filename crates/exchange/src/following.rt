@@ -1,142 +1,115 @@
 // Whether a session can follow its role: each send, begin and end can be filled when it comes, and no receive has more
 // than 3 new variables.
-ghost use Rattle.std.specs.Prelude.{◌≡◌, ◌<◌, not, ◌||◌, map, length, take, filter};
+ghost use Rattle.std.specs.Prelude.{◌≡◌, Bool, List, map, length};
 ghost use Rattle.std.specs.List.{flat_map};
-ghost use Rattle.message.specs.Bytes.{is_variable};
+ghost use Rattle.message.specs.Forms.{text};
 ghost use Rattle.message.specs.Variables.{among};
+ghost use Rattle.exchange.specs.Exchanges.{Step as Does, Binding as Start};
+ghost use Rattle.exchange.specs.Moments.{starts_at, steps_before, Asks};
 ghost use Rattle.exchange.specs.Parts.{step_of};
 ghost use Rattle.exchange.specs.Roles.{role_of};
-ghost use Rattle.exchange.specs.Rules.{received_in, is_bound, all_bound, can_fill, binds_few, step_at, fillable, few_new};
+ghost use Rattle.exchange.specs.Rules.{received_in, is_bound, all_bound, can_fill, new_in, binds_few, throughout, fillable, few_new};
 ghost use Rattle.exchange.specs.Sessions.{starts_in};
 
 use crate::role::Role;
 use crate::session::Session;
 use crate::step::Step;
-use message::reader::{is_variable, occurs};
+use message::form::Form;
+use message::reader::is_variable;
 
-// Whether the step receives a form in which the variable stands.
-fn receives(step: &Step, variable: u8) -> bool
-    ensures value { result ≡ among variable (received_in (step_of step.now)) }
-{
-    match step {
-        Step::Receive(form) => occurs(variable, form.bytes()),
-        _ => false,
-    }
+// A moment of a session: its starting values, and the steps that came before.
+#[derive(Clone, Copy)]
+struct Moment<'a> {
+    session: &'a Session,
+    before: &'a [Step],
 }
 
 // Whether the variable stands in a form that one of the steps receives.
 fn is_received(steps: &[Step], variable: u8) -> bool
     ensures value { result ≡ among variable (flat_map received_in (map step_of steps.now)) }
 {
-    for step in steps {
-        if receives(step, variable) {
-            return true;
+    steps.iter().any(|step| step.receives(variable))
+}
+
+impl Moment<'_> {
+    // Whether the variable has a value by now.
+    fn binds(&self, variable: u8) -> bool
+        ensures value { result ≡ is_bound (starts_at self.now) (steps_before self.now) variable }
+    {
+        self.session.starts(variable) || is_received(self.before, variable)
+    }
+
+    // Whether each variable of the bytes has a value by now.
+    fn binds_all(&self, bytes: &[u8]) -> bool
+        ensures value { result ≡ all_bound (starts_at self.now) (steps_before self.now) bytes.now }
+    {
+        bytes
+            .iter()
+            .all(|byte| !is_variable(*byte) || self.binds(*byte))
+    }
+
+    // Whether the step can be filled now.
+    fn can_fill(&self, step: &Step) -> bool
+        ensures value { result ≡ can_fill (starts_at self.now) (steps_before self.now) (step_of step.now) }
+    {
+        match step {
+            Step::Receive(_) => true,
+            Step::Send(form) | Step::Begin { form, .. } | Step::End { form, .. } => {
+                self.binds_all(form.bytes())
+            }
         }
     }
-    false
-}
 
-// Whether the variable has a value after these steps.
-fn is_bound(session: &Session, before: &[Step], variable: u8) -> bool
-    ensures value { result ≡ is_bound (starts_in session.now) (map step_of before.now) variable }
-{
-    session.starts(variable) || is_received(before, variable)
-}
+    // How many variables of the form have no value yet.
+    fn count_new(&self, form: &Form) -> usize
+        ensures value { result ≡ length (new_in (starts_at self.now) (steps_before self.now) (text form.now)) }
+    {
+        let variables = form.variables();
+        variables
+            .names()
+            .iter()
+            .filter(|name| !self.binds(**name))
+            .count()
+    }
 
-// Whether the byte is no variable, or one that has a value after these steps.
-fn is_filled(session: &Session, before: &[Step], byte: u8) -> bool
-    ensures value { result ≡ (not (is_variable byte) || is_bound (starts_in session.now) (map step_of before.now) byte) }
-{
-    !is_variable(byte) || is_bound(session, before, byte)
-}
-
-// Whether each variable of the bytes has a value after these steps.
-fn all_bound(session: &Session, before: &[Step], bytes: &[u8]) -> bool
-    ensures value { result ≡ all_bound (starts_in session.now) (map step_of before.now) bytes.now }
-{
-    for byte in bytes {
-        if !is_filled(session, before, *byte) {
-            return false;
+    // Whether the step is no receive with more than 3 new variables.
+    fn binds_few(&self, step: &Step) -> bool
+        ensures value { result ≡ binds_few (starts_at self.now) (steps_before self.now) (step_of step.now) }
+    {
+        match step {
+            Step::Receive(form) => self.count_new(form) <= 3,
+            _ => true,
         }
     }
-    true
 }
 
-// Whether the step can be filled after these.
-fn can_fill(session: &Session, before: &[Step], step: Step) -> bool
-    ensures value { result ≡ can_fill (starts_in session.now) (map step_of before.now) (step_of step) }
-{
-    match step {
-        Step::Receive(_) => true,
-        Step::Send(form) => all_bound(session, before, form.bytes()),
-        Step::Begin { mark: _, form } => all_bound(session, before, form.bytes()),
-        Step::End { mark: _, form } => all_bound(session, before, form.bytes()),
-    }
-}
-
-// How many of the variables have no value after these steps.
-fn count_new(session: &Session, before: &[Step], names: &[u8]) -> usize
-    ensures value { result ≡ length (filter (λ v. not (is_bound (starts_in session.now) (map step_of before.now) v)) names.now) }
-{
-    let mut count = 0;
-    for name in names {
-        if !is_bound(session, before, *name) {
-            count += 1;
-        }
-    }
-    count
-}
-
-// Whether the step is no receive with more than 3 new variables after these.
-fn binds_few(session: &Session, before: &[Step], step: Step) -> bool
-    ensures value { result ≡ binds_few (starts_in session.now) (map step_of before.now) (step_of step) }
-{
-    match step {
-        Step::Receive(form) => count_new(session, before, form.variables().names()) <= 3,
-        _ => true,
-    }
-}
-
-// Whether the step at this line can be filled when it comes.
-fn can_fill_at(role: &Role, session: &Session, line: usize) -> bool
-    requires within { line < length (role_of role.now) }
-    ensures value { result ≡ can_fill (starts_in session.now) (take line (role_of role.now)) (step_at (role_of role.now) line) }
+// Whether the test holds of each step of the role, at the moment when it comes.
+// Role and session go as two parameters: a struct of both would be made in one place alone, where a session is read.
+fn holds_throughout<F: Fn(&Moment<'_>, &Step) -> bool>(
+    role: &Role,
+    session: &Session,
+    test: F,
+) -> bool
+    requires callable { F.IsAlwaysCallable test }
+    ensures value { (rule : List Start → List Does → Does → Bool) → Asks rule (F.post test) → result ≡ throughout rule (role_of role.now) (starts_in session.now) }
 {
     let steps = role.steps();
-    can_fill(session, &steps[0..line], steps[line])
-}
-
-// Whether the step at this line is no receive with more than 3 new variables when it comes.
-fn binds_few_at(role: &Role, session: &Session, line: usize) -> bool
-    requires within { line < length (role_of role.now) }
-    ensures value { result ≡ binds_few (starts_in session.now) (take line (role_of role.now)) (step_at (role_of role.now) line) }
-{
-    let steps = role.steps();
-    binds_few(session, &steps[0..line], steps[line])
+    steps.iter().enumerate().all(|(line, step)| {
+        let before = &steps[..line];
+        test(&Moment { session, before }, step)
+    })
 }
 
 // Whether each send, begin and end of the role can be filled when it comes.
 pub(crate) fn is_fillable(role: &Role, session: &Session) -> bool
     ensures value { result ≡ fillable (role_of role.now) (starts_in session.now) }
 {
-    let count = role.steps().len();
-    for line in 0..count {
-        if !can_fill_at(role, session, line) {
-            return false;
-        }
-    }
-    true
+    holds_throughout(role, session, |moment, step| moment.can_fill(step))
 }
 
 // Whether no receive of the role has more than 3 new variables.
 pub(crate) fn has_few_new(role: &Role, session: &Session) -> bool
     ensures value { result ≡ few_new (role_of role.now) (starts_in session.now) }
 {
-    let count = role.steps().len();
-    for line in 0..count {
-        if !binds_few_at(role, session, line) {
-            return false;
-        }
-    }
-    true
+    holds_throughout(role, session, |moment, step| moment.binds_few(step))
 }

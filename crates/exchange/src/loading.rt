@@ -1,6 +1,6 @@
 // Reading a whole file.
 ghost use Rattle.std.specs.Prelude.{◌≡◌, suc, ◌&&◌, length, None, nat_le};
-ghost use Rattle.exchange.specs.Answers.{outcome_of, placed_at};
+ghost use Rattle.exchange.specs.Answers.{outcome_of};
 ghost use Rattle.exchange.specs.Checks.{blank, is_end, reading};
 ghost use Rattle.exchange.specs.Views.{exchange_of};
 
@@ -9,24 +9,11 @@ use crate::refusal::Refusal;
 use crate::tag::Tag;
 use message::stop::Stop;
 
-// What came of a field that stands at this place.
-fn placed<T>(res: Result<T, Stop>, place: usize) -> Result<T, Refusal>
-    ensures value { result ≡ placed_at res place }
-{
-    match res {
-        Ok(value) => Ok(value),
-        Err(stop) => Err(Refusal { stop, place }),
-    }
-}
-
 // Whether the last field was the end and nothing follows it.
 fn is_done(last: Option<Tag>, at: usize, len: usize) -> bool
     ensures value { result ≡ (is_end last && nat_le len at) }
 {
-    match last {
-        Some(Tag::EndTag) => len <= at,
-        _ => false,
-    }
+    last == Some(Tag::EndTag) && len <= at
 }
 
 // Reads the fields of the file, one after the other, into an exchange that has nothing yet.
@@ -34,10 +21,13 @@ pub(crate) fn read_fields(draft: &mut Exchange, file: &[u8]) -> Result<(), Refus
     requires empty { exchange_of draft.old ≡ blank }
     ensures outcome { outcome_of result (exchange_of draft.new) ≡ reading (suc (length file.now)) file.now 0 None blank }
 {
+    // where the next field begins, which a refusal names
     let mut at = 0;
     let mut last = None;
     while !is_done(last, at, file.len()) {
-        let (tag, size) = placed(draft.read_field(last, &file[at..]), at)?;
+        let (tag, size) = draft
+            .read_field(last, &file[at..])
+            .map_err(|stop| Refusal { stop, place: at })?;
         last = Some(tag);
         at += size;
     }

@@ -1,5 +1,5 @@
 // A session: a role that is played, with starting values for some of its variables.
-ghost use Rattle.std.specs.Prelude.{◌≡◌, ◌≤◌, length};
+use message::row::Row;
 
 mod methods;
 
@@ -14,8 +14,5 @@ pub struct Binding {
 #[derive(Clone, Copy)]
 pub struct Session {
     role: u8,
-    bindings: [Binding; 8],
-    count: u8,
-    ghost whole: { length bindings ≡ 8 },
-    ghost fits: { count ≤ 8 },
+    bindings: Row<Binding, 8>,
 }

@@ -1,3 +1,4 @@
+pub mod Adding
 pub mod Example
 pub mod Fronts
-pub mod Putting
+pub mod Rows

@@ -1,3 +1,4 @@
+pub mod Adds
 pub mod Lines
 pub mod Listing
 pub mod Puts

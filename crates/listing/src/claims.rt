@@ -1,39 +1,32 @@
 // The lines of claims.
-ghost use Rattle.std.specs.Prelude.{◌≡◌, map};
-ghost use Rattle.exchange.specs.Atoms.{declaration_of};
 ghost use Rattle.exchange.specs.Parts.{claim_of};
+ghost use Rattle.listing.specs.Adds.{Adds, declared_in};
 ghost use Rattle.listing.specs.Lines.{claim_text, claim_line};
-ghost use Rattle.listing.specs.Puts.{Puts};
 
-use crate::forms::{put_byte, put_message};
+use crate::listing::Listing;
 use crate::parts::Part;
-use crate::words::{put_between, put_word};
 use exchange::claim::Claim;
-use exchange::declaration::Declaration;
 use std::alloc::AllocError;
 
-// What is claimed.
-fn put_claim(text: &mut Vec<u8>, atoms: &[Declaration], claim: &Claim) -> Result<(), AllocError>
-    ensures puts { Puts result text.old.items text.new.items (claim_text (map declaration_of atoms.now) (claim_of claim.now)) }
-{
-    match claim {
-        Claim::Secret(message) => {
-            put_message(text, atoms, message)?;
-            put_word(text, " stays secret")
+impl Listing<'_> {
+    // What is claimed.
+    fn put_claim(&mut self, claim: &Claim) -> Result<(), AllocError>
+        ensures adds { Adds result self.old self.new (claim_text (declared_in self.old) (claim_of claim.now)) }
+    {
+        match claim {
+            Claim::Secret(message) => {
+                self.put_message(message)?;
+                self.push_str(" stays secret")
+            }
+            Claim::SessionSecret { session, variable } => {
+                self.put_byte(*variable)?;
+                write!(self, " of session {session} stays secret")
+            }
+            Claim::Matched { mark } => write!(self, "each end with mark {mark} has a begin"),
+            Claim::MatchedOnce { mark } => {
+                write!(self, "no more ends with mark {mark} than begins")
+            }
         }
-        Claim::SessionSecret { session, variable } => {
-            put_byte(text, atoms, *variable)?;
-            put_between(text, " of session ", *session as usize, " stays secret")
-        }
-        Claim::Matched { mark } => {
-            put_between(text, "each end with mark ", *mark as usize, " has a begin")
-        }
-        Claim::MatchedOnce { mark } => put_between(
-            text,
-            "no more ends with mark ",
-            *mark as usize,
-            " than begins",
-        ),
     }
 }
 
@@ -41,14 +34,9 @@ fn put_claim(text: &mut Vec<u8>, atoms: &[Declaration], claim: &Claim) -> Result
 impl Part for Claim {
     ghost shown = { λ ds n c. claim_line ds n (claim_of c) };
 
-    fn put(
-        &self,
-        text: &mut Vec<u8>,
-        atoms: &[Declaration],
-        number: usize,
-    ) -> Result<(), AllocError> {
-        put_between(text, "claim ", number, ": ")?;
-        put_claim(text, atoms, self)?;
-        put_word(text, "\n")
+    fn put(&self, listing: &mut Listing<'_>, number: usize) -> Result<(), AllocError> {
+        write!(listing, "claim {number}: ")?;
+        listing.put_claim(self)?;
+        listing.push_str("\n")
     }
 }

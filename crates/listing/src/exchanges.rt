@@ -4,7 +4,7 @@ ghost use Rattle.listing.specs.Listing.{listing_text};
 ghost use Rattle.listing.specs.Puts.{Puts};
 ghost use Rattle.listing.specs.Worked.{Worked};
 
-use crate::parts::put_all;
+use crate::listing::Listing;
 use exchange::exchange::Exchange;
 use std::alloc::AllocError;
 
@@ -12,12 +12,13 @@ use std::alloc::AllocError;
 fn put_rows(text: &mut Vec<u8>, exchange: &Exchange) -> Result<(), AllocError>
     ensures puts { Puts result text.old.items text.new.items (listing_text (exchange_of exchange.now)) }
 {
-    let atoms = exchange.atoms.as_slice();
-    put_all(text, atoms, atoms)?;
-    put_all(text, atoms, exchange.opening.as_slice())?;
-    put_all(text, atoms, exchange.roles.as_slice())?;
-    put_all(text, atoms, exchange.sessions.as_slice())?;
-    put_all(text, atoms, exchange.claims.as_slice())
+    let atoms = &exchange.atoms;
+    let mut listing = Listing { text, atoms };
+    listing.put_all(atoms)?;
+    listing.put_all(&exchange.opening)?;
+    listing.put_all(&exchange.roles)?;
+    listing.put_all(&exchange.sessions)?;
+    listing.put_all(&exchange.claims)
 }
 
 // The listing.

@@ -2,85 +2,90 @@
 ghost use Rattle.std.specs.Prelude.{◌≡◌, ℕ, ◌≤◌, true, List, ◌++◌, map, length, IfOk};
 ghost use Rattle.message.specs.Forms.{text as bytes_of};
 ghost use Rattle.message.specs.Messages.{message_text};
-ghost use Rattle.message.specs.Trees.{Tree, proper, write, size};
+ghost use Rattle.message.specs.Trees.{Tree, proper, write};
 ghost use Rattle.exchange.specs.Atoms.{declaration_of};
+ghost use Rattle.listing.specs.Adds.{Added, Adds, declared_in};
 ghost use Rattle.listing.specs.Puts.{Puts};
-ghost use Rattle.listing.specs.Texts.{label_of, variable_text, byte_text, tree_text, form_text};
+ghost use Rattle.listing.specs.Texts.{label_of, byte_text, tree_text, form_text};
 
-use crate::words::{put_bytes, put_decimal, put_word, variable_word};
+use crate::listing::Listing;
+use crate::words::variable_word;
 use exchange::declaration::Declaration;
 use message::closed::Message;
 use message::form::Form;
-use message::kind::{Kind, Symbol, symbol_of};
+use message::kind::Symbol;
 use std::alloc::AllocError;
 
 // The label of an atom; nothing where the atom is not declared.
 fn label_of(atoms: &[Declaration], atom: u8) -> &[u8]
     ensures value { result.now ≡ label_of (map declaration_of atoms.now) atom }
 {
-    for declaration in atoms {
-        if atom == declaration.atom {
-            return declaration.label.bytes();
+    atoms
+        .iter()
+        .find(|declaration| declaration.atom == atom)
+        .map_or(&[], |declaration| declaration.label.bytes())
+}
+
+impl Listing<'_> {
+    // A byte that is an atom or a variable; nothing for any other. A variable is shown as a question mark, its kind and
+    // its number in the kind.
+    pub(crate) fn put_byte(&mut self, byte: u8) -> Result<(), AllocError>
+        ensures adds { Adds result self.old self.new (byte_text (declared_in self.old) byte) }
+    {
+        match Symbol::from(byte) {
+            Symbol::Atom(_) => self.push_bytes(label_of(self.atoms, byte)),
+            Symbol::Variable(kind) => write!(self, "?{}{}", variable_word(kind), byte % 16),
+            Symbol::Join | Symbol::Lock | Symbol::Unused => Ok(()),
         }
     }
-    &[]
-}
 
-// A variable: a question mark, its kind and its number in the kind.
-fn put_variable(text: &mut Vec<u8>, kind: Kind, variable: u8) -> Result<(), AllocError>
-    ensures puts { Puts result text.old.items text.new.items (variable_text kind variable) }
-{
-    put_word(text, "?")?;
-    put_word(text, variable_word(kind))?;
-    put_decimal(text, (variable % 16) as usize)
-}
-
-// A byte that is an atom or a variable; nothing for any other.
-pub(crate) fn put_byte(
-    text: &mut Vec<u8>,
-    atoms: &[Declaration],
-    byte: u8,
-) -> Result<(), AllocError>
-    ensures puts { Puts result text.old.items text.new.items (byte_text (map declaration_of atoms.now) byte) }
-{
-    match symbol_of(byte) {
-        Symbol::Atom(_) => put_bytes(text, label_of(atoms, byte)),
-        Symbol::Variable(kind) => put_variable(text, kind, byte),
-        Symbol::Join | Symbol::Lock | Symbol::Unused => Ok(()),
-    }
-}
-
-// The form at the front of the bytes. Answers how many bytes it takes.
-fn put_front(text: &mut Vec<u8>, atoms: &[Declaration], bytes: &[u8]) -> Result<usize, AllocError>
-    ensures within { IfOk result (λ n. n ≤ length bytes.now) }
-    ensures puts { (t : Tree) (rest : List ℕ) → proper t ≡ true → write t ++ rest ≡ bytes.now → IfOk result (λ n. (n ≡ size t) × (text.new.items ≡ text.old.items ++ tree_text (map declaration_of atoms.now) t)) }
-{
-    if bytes.len() < 1 {
-        return Ok(0);
-    }
-    match symbol_of(bytes[0]) {
-        Symbol::Join => {
-            put_word(text, "(")?;
-            let left = put_front(text, atoms, &bytes[1..])?;
-            put_word(text, ",")?;
-            let right = put_front(text, atoms, &bytes[1 + left..])?;
-            put_word(text, ")")?;
-            Ok(1 + left + right)
-        }
-        Symbol::Lock => {
-            if bytes.len() < 2 {
-                return Ok(1);
+    // The form at the front of the bytes. Answers the bytes after it.
+    fn put_front<'b>(&mut self, bytes: &'b [u8]) -> Result<&'b [u8], AllocError>
+        ensures within { IfOk result (λ after. length after.now ≤ length bytes.now) }
+        ensures adds { (t : Tree) (rest : List ℕ) → proper t ≡ true → write t ++ rest ≡ bytes.now → IfOk result (λ after. (after.now ≡ rest) × Added self.old self.new (tree_text (declared_in self.old) t)) }
+    {
+        let [first, rest @ ..] = bytes else {
+            return Ok(bytes);
+        };
+        match Symbol::from(*first) {
+            Symbol::Join => {
+                self.push_str("(")?;
+                let right = self.put_front(rest)?;
+                self.push_str(",")?;
+                let after = self.put_front(right)?;
+                self.push_str(")")?;
+                Ok(after)
             }
-            put_word(text, "{")?;
-            let inside = put_front(text, atoms, &bytes[2..])?;
-            put_word(text, "}")?;
-            put_byte(text, atoms, bytes[1])?;
-            Ok(2 + inside)
+            Symbol::Lock => {
+                let [key, inside @ ..] = rest else {
+                    return Ok(rest);
+                };
+                self.push_str("{")?;
+                let after = self.put_front(inside)?;
+                self.push_str("}")?;
+                self.put_byte(*key)?;
+                Ok(after)
+            }
+            Symbol::Atom(_) | Symbol::Variable(_) | Symbol::Unused => {
+                self.put_byte(*first)?;
+                Ok(rest)
+            }
         }
-        Symbol::Atom(_) | Symbol::Variable(_) | Symbol::Unused => {
-            put_byte(text, atoms, bytes[0])?;
-            Ok(1)
-        }
+    }
+
+    // A form.
+    pub(crate) fn put_form(&mut self, form: &Form) -> Result<(), AllocError>
+        ensures adds { Adds result self.old self.new (form_text (declared_in self.old) (bytes_of form.now)) }
+    {
+        self.put_front(form.bytes())?;
+        Ok(())
+    }
+
+    // A message.
+    pub(crate) fn put_message(&mut self, message: &Message) -> Result<(), AllocError>
+        ensures adds { Adds result self.old self.new (form_text (declared_in self.old) (message_text message.now)) }
+    {
+        self.put_form(&message.form())
     }
 }
 
@@ -88,8 +93,7 @@ fn put_front(text: &mut Vec<u8>, atoms: &[Declaration], bytes: &[u8]) -> Result<
 pub fn put_form(text: &mut Vec<u8>, atoms: &[Declaration], form: &Form) -> Result<(), AllocError>
     ensures puts { Puts result text.old.items text.new.items (form_text (map declaration_of atoms.now) (bytes_of form.now)) }
 {
-    put_front(text, atoms, form.bytes())?;
-    Ok(())
+    Listing { text, atoms }.put_form(form)
 }
 
 // A message.
@@ -100,5 +104,5 @@ pub fn put_message(
 ) -> Result<(), AllocError>
     ensures puts { Puts result text.old.items text.new.items (form_text (map declaration_of atoms.now) (message_text message.now)) }
 {
-    put_form(text, atoms, &message.form())
+    Listing { text, atoms }.put_message(message)
 }

@@ -5,7 +5,10 @@ mod atoms;
 mod claims;
 pub mod exchanges;
 pub mod forms;
+mod listing;
 mod parts;
 mod sessions;
 pub mod steps;
+#[cfg(test)]
+mod tests;
 mod words;

@@ -3,10 +3,8 @@ ghost use Rattle.std.specs.Prelude.{◌≡◌};
 ghost use Rattle.exchange.specs.Sessions.{binding_of, session_of};
 ghost use Rattle.listing.specs.Lines.{start_word, start_text, session_line};
 
-use crate::forms::put_byte;
-use crate::parts::{Part, put_all};
-use crate::words::{put_between, put_decimal, put_word};
-use exchange::declaration::Declaration;
+use crate::listing::Listing;
+use crate::parts::Part;
 use exchange::session::{Binding, Session};
 use std::alloc::AllocError;
 
@@ -21,16 +19,11 @@ fn start_word(number: usize) -> &'static str
 impl Part for Binding {
     ghost shown = { λ ds n b. start_text ds n (binding_of b) };
 
-    fn put(
-        &self,
-        text: &mut Vec<u8>,
-        atoms: &[Declaration],
-        number: usize,
-    ) -> Result<(), AllocError> {
-        put_word(text, start_word(number))?;
-        put_byte(text, atoms, self.variable)?;
-        put_word(text, " = ")?;
-        put_byte(text, atoms, self.atom)
+    fn put(&self, listing: &mut Listing<'_>, number: usize) -> Result<(), AllocError> {
+        listing.push_str(start_word(number))?;
+        listing.put_byte(self.variable)?;
+        listing.push_str(" = ")?;
+        listing.put_byte(self.atom)
     }
 }
 
@@ -38,15 +31,9 @@ impl Part for Binding {
 impl Part for Session {
     ghost shown = { λ ds n s. session_line ds n (session_of s) };
 
-    fn put(
-        &self,
-        text: &mut Vec<u8>,
-        atoms: &[Declaration],
-        number: usize,
-    ) -> Result<(), AllocError> {
-        put_between(text, "session ", number, " plays role ")?;
-        put_decimal(text, self.role() as usize)?;
-        put_all(text, atoms, self.bindings())?;
-        put_word(text, "\n")
+    fn put(&self, listing: &mut Listing<'_>, number: usize) -> Result<(), AllocError> {
+        write!(listing, "session {number} plays role {}", self.role())?;
+        listing.put_all(self.bindings())?;
+        listing.push_str("\n")
     }
 }

@@ -24,34 +24,34 @@ value_fits atoms fit v = go (is_variable v) refl
         ap (fitting v) (value_known atoms v e) ∙ ap (λ w. fitting w (get_or atoms (v - 0x80) None)) same ∙ fit (v - 0x80)
     go false e = ap (fitting v) (value_missing atoms v e)
 
-module _ (atoms : List (Option ℕ)) (whole : length atoms ≡ 80) (v : ℕ) (is : is_variable v ≡ true) (o : Option ℕ) where
-  place : (0x80 ≤ v) × (v < 0xD0)
-  place = variable_place v is
+module _ (atoms : List (Option ℕ)) (whole : length atoms ≡ 80) (v place : ℕ) (is : is_variable v ≡ true) (at : place ≡ v - 0x80) (o : Option ℕ) where
+  range : (0x80 ≤ v) × (v < 0xD0)
+  range = variable_place v is
 
   -- the values that were of their kinds still are
   pub set_fits : fitting v o ≡ true → ((i : ℕ) → fitting (0x80 + i) (get_or atoms i None) ≡ true)
-      → (i : ℕ) → fitting (0x80 + i) (get_or (set atoms (v - 0x80) o) i None) ≡ true
-  set_fits e before i = ⊎_elim here there (cases_eq i (v - 0x80))
+      → (i : ℕ) → fitting (0x80 + i) (get_or (set atoms place o) i None) ≡ true
+  set_fits e before i = ⊎_elim here there (cases_eq i place)
     where
-      here : i ≡ v - 0x80 → fitting (0x80 + i) (get_or (set atoms (v - 0x80) o) i None) ≡ true
-      here at =
-          let same : 0x80 + i ≡ v = omega (arith, place) in
-          let found : get_or (set atoms (v - 0x80) o) i None ≡ o = ap (λ j. get_or (set atoms (v - 0x80) o) j None) at ∙ get_or-set_same atoms (v - 0x80) o None (omega (arith, place)) in
-          ap (λ w. fitting w (get_or (set atoms (v - 0x80) o) i None)) same ∙ ap (fitting v) found ∙ e
+      here : i ≡ place → fitting (0x80 + i) (get_or (set atoms place o) i None) ≡ true
+      here same =
+          let v_is : 0x80 + i ≡ v = omega (arith, range, at) in
+          let found : get_or (set atoms place o) i None ≡ o = ap (λ j. get_or (set atoms place o) j None) same ∙ get_or-set_same atoms place o None (omega (arith, range, at)) in
+          ap (λ w. fitting w (get_or (set atoms place o) i None)) v_is ∙ ap (fitting v) found ∙ e
 
-      there : (i ≡ v - 0x80 → ⊥) → fitting (0x80 + i) (get_or (set atoms (v - 0x80) o) i None) ≡ true
-      there other = ap (fitting (0x80 + i)) (get_or-set_other atoms (v - 0x80) i o None other) ∙ before i
+      there : (i ≡ place → ⊥) → fitting (0x80 + i) (get_or (set atoms place o) i None) ≡ true
+      there other = ap (fitting (0x80 + i)) (get_or-set_other atoms place i o None other) ∙ before i
 
   -- the variable has the new value
-  pub set_here : value_at (set atoms (v - 0x80) o) v ≡ o
-  set_here = value_known (set atoms (v - 0x80) o) v is ∙ get_or-set_same atoms (v - 0x80) o None (omega (arith, place))
+  pub set_here : value_at (set atoms place o) v ≡ o
+  set_here = value_known (set atoms place o) v is ∙ ap (λ i. get_or (set atoms place o) i None) (sym at) ∙ get_or-set_same atoms place o None (omega (arith, range, at))
 
   -- every other variable keeps its own
-  pub set_there : (w : ℕ) → (w ≡ v → ⊥) → value_at (set atoms (v - 0x80) o) w ≡ value_at atoms w
+  pub set_there : (w : ℕ) → (w ≡ v → ⊥) → value_at (set atoms place o) w ≡ value_at atoms w
   set_there w other = go (is_variable w) refl
     where
-      go : (t : Bool) → is_variable w ≡ t → value_at (set atoms (v - 0x80) o) w ≡ value_at atoms w
+      go : (t : Bool) → is_variable w ≡ t → value_at (set atoms place o) w ≡ value_at atoms w
       go true e =
-          let apart : w - 0x80 ≢ v - 0x80 = λ same. other (omega (arith, place, variable_place w e)) in
-          value_known (set atoms (v - 0x80) o) w e ∙ get_or-set_other atoms (v - 0x80) (w - 0x80) o None apart ∙ sym (value_known atoms w e)
-      go false e = value_missing (set atoms (v - 0x80) o) w e ∙ sym (value_missing atoms w e)
+          let apart : w - 0x80 ≢ place = λ same. other (omega (arith, range, at, variable_place w e)) in
+          value_known (set atoms place o) w e ∙ get_or-set_other atoms place (w - 0x80) o None apart ∙ sym (value_known atoms w e)
+      go false e = value_missing (set atoms place o) w e ∙ sym (value_missing atoms w e)

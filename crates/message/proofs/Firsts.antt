@@ -1,5 +1,5 @@
 -- The variables found so far are those of the bytes so far, in order of first occurrence. Assumes nothing.
-use Rattle.std.proofs.Common.{◌≡◌, ℕ, zero, suc, ◌<◌, ◌≤◌, Bool, true, false, not, ◌&&◌, ◌||◌, eqb, List, [], ◌∷◌, ◌++◌, length, get_or, sym, refl, ap, ◌∙◌, subst, ⊎_elim, append_assoc, append-nil, arith}
+use Rattle.std.proofs.Common.{◌≡◌, ℕ, zero, suc, ◌+◌, ◌<◌, ◌≤◌, Bool, true, false, not, ◌&&◌, ◌||◌, eqb, List, [], ◌∷◌, ◌++◌, length, get_or, sym, refl, ap, ◌∙◌, subst, ⊎_elim, append_assoc, append-nil, arith}
 use borrow.Author.Tests.{clash}
 use Rattle.std.proofs.lemmas.List.{length_push, get_or_push, get_or_append_left}
 use Rattle.std.proofs.lemmas.Bool.{and_parts, not-true, or_cases, or_left, or_right, eqb-true, eq-eqb, cases_lt, both_ways, cases_Bool}
@@ -12,6 +12,14 @@ noted_new found b e = ap (λ t. elim t as (λ _. List ℕ) [ true ↦ found ++ b
 
 pub noted_old : (found : List ℕ) (b : ℕ) → is_new found b ≡ false → noted found b ≡ found
 noted_old found b e = ap (λ t. elim t as (λ _. List ℕ) [ true ↦ found ++ b ∷ [] | false ↦ found ]) e
+
+-- noting a byte adds it or nothing
+pub noted_bounds : (found : List ℕ) (b : ℕ) → (length found ≤ length (noted found b)) × (length (noted found b) ≤ length found + 1)
+noted_bounds found b = go (is_new found b) refl
+  where
+    go : (t : Bool) → is_new found b ≡ t → (length found ≤ length (noted found b)) × (length (noted found b) ≤ length found + 1)
+    go true e = let n = ap length (noted_new found b e) ∙ length_push found b in (omega (arith, n), omega (arith, n))
+    go false e = let n = ap length (noted_old found b e) in (omega (arith, n), omega (arith, n))
 
 -- one byte more at the end
 among_push : (x b : ℕ) (bs : List ℕ) → among x (bs ++ b ∷ []) ≡ among x bs || eqb x b

@@ -1,3 +1,4 @@
+pub mod Among
 pub mod Atoms
 pub mod Binding
 pub mod FillLoop
@@ -7,6 +8,6 @@ pub mod FirstsLoop
 pub mod NoVariable
 pub mod OneReading
 pub mod OneValue
-pub mod Padding
+pub mod Pushing
 pub mod Reading
 pub mod Whole

@@ -1,14 +1,11 @@
 -- The bytes that a form or a message stands for.
-use Rattle.std.specs.Prelude.{◌≡◌, ℕ, ◌-◌, List, ◌++◌, length, take, replicate}
+use Rattle.std.specs.Prelude.{◌≡◌, ℕ, List}
 use Rattle.message.specs.declared.form.Form.{Form}
+use Rattle.message.specs.Rows.{items_in}
 
 -- the bytes of a form
 abbrev pub text : Form → List ℕ
-text form = take form.len form.bytes
-
--- the bytes, and zeros up to 24
-abbrev pub padding : List ℕ → List ℕ
-padding bs = bs ++ replicate (24 - length bs) 0
+text form = items_in form.bytes
 
 -- forms with the same bytes are the same value
 abbrev pub OneForm : Type 0

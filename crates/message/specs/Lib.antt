@@ -2,6 +2,7 @@ pub mod Bytes
 pub mod Filling
 pub mod Forms
 pub mod Messages
+pub mod Rows
 pub mod Stops
 pub mod Trees
 pub mod Values

@@ -1,11 +1,12 @@
 -- The variables of a form, each once, in order of first occurrence.
-use Rattle.std.specs.Prelude.{◌≡◌, ℕ, suc, ◌<◌, Bool, true, false, not, ◌&&◌, ◌||◌, List, [], ◌∷◌, ◌++◌, length, take, ◌==◌, ◌≢◌, slice_index}
+use Rattle.std.specs.Prelude.{◌≡◌, ℕ, suc, ◌<◌, Bool, true, false, not, ◌&&◌, ◌||◌, List, [], ◌∷◌, ◌++◌, length, ◌==◌, ◌≢◌, slice_index}
 use Rattle.message.specs.declared.variables.Variables.{Variables}
 use Rattle.message.specs.Bytes.{is_variable}
+use Rattle.message.specs.Rows.{items_in}
 
 -- the names that a value of the code holds
 abbrev pub names_in : Variables → List ℕ
-names_in variables = take variables.count variables.names
+names_in variables = items_in variables.names
 
 -- b occurs in the bytes
 abbrev pub among : ℕ → List ℕ → Bool

@@ -1,4 +1,4 @@
-// A message: a form with no variable.
+// A message: a form with no variable. Messages are equal where their bytes are.
 ghost use Rattle.std.specs.Prelude.{◌≡◌, true};
 ghost use Rattle.message.specs.Forms.{text};
 ghost use Rattle.message.specs.Trees.{closed};
@@ -7,7 +7,7 @@ use crate::form::Form;
 
 pub mod methods;
 
-#[derive(Clone, Copy)]
+#[derive(Clone, Copy, PartialEq)]
 pub struct Message {
     pub(crate) form: Form,
     ghost fixed: { closed (text form) ≡ true },

@@ -23,24 +23,28 @@ pub enum Symbol {
     Unused,
 }
 
-// What `byte` stands for.
-pub fn symbol_of(byte: u8) -> Symbol
-    ensures value { result ≡ symbol byte }
-{
-    match byte {
-        0x00..=0x1F => Symbol::Atom(Kind::Name),
-        0x20..=0x3F => Symbol::Atom(Kind::Nonce),
-        0x40..=0x4F => Symbol::Atom(Kind::Data),
-        0x50..=0x5F => Symbol::Atom(Kind::SharedKey),
-        0x60..=0x6F => Symbol::Atom(Kind::PairKey),
-        0x80..=0x8F => Symbol::Variable(Kind::Name),
-        0x90..=0x9F => Symbol::Variable(Kind::Nonce),
-        0xA0..=0xAF => Symbol::Variable(Kind::Data),
-        0xB0..=0xBF => Symbol::Variable(Kind::SharedKey),
-        0xC0..=0xCF => Symbol::Variable(Kind::PairKey),
-        0xF0 => Symbol::Join,
-        0xF1 => Symbol::Lock,
-        _ => Symbol::Unused,
+// What a byte stands for.
+impl From<u8> for Symbol {
+    ghost from_gives = { λ byte s. s ≡ symbol byte };
+
+    fn from(byte: u8) -> Symbol
+        ensures value { result ≡ symbol byte }
+    {
+        match byte {
+            0x00..=0x1F => Symbol::Atom(Kind::Name),
+            0x20..=0x3F => Symbol::Atom(Kind::Nonce),
+            0x40..=0x4F => Symbol::Atom(Kind::Data),
+            0x50..=0x5F => Symbol::Atom(Kind::SharedKey),
+            0x60..=0x6F => Symbol::Atom(Kind::PairKey),
+            0x80..=0x8F => Symbol::Variable(Kind::Name),
+            0x90..=0x9F => Symbol::Variable(Kind::Nonce),
+            0xA0..=0xAF => Symbol::Variable(Kind::Data),
+            0xB0..=0xBF => Symbol::Variable(Kind::SharedKey),
+            0xC0..=0xCF => Symbol::Variable(Kind::PairKey),
+            0xF0 => Symbol::Join,
+            0xF1 => Symbol::Lock,
+            _ => Symbol::Unused,
+        }
     }
 }
 
@@ -48,7 +52,7 @@ pub fn symbol_of(byte: u8) -> Symbol
 pub fn inverse(key: u8) -> Option<u8>
     ensures value { result ≡ inverse_of key }
 {
-    match symbol_of(key) {
+    match Symbol::from(key) {
         Symbol::Atom(Kind::SharedKey) => Some(key),
         Symbol::Atom(Kind::PairKey) => Some(if key % 2 == 0 { key + 1 } else { key - 1 }),
         _ => None,
@@ -56,10 +60,11 @@ pub fn inverse(key: u8) -> Option<u8>
 }
 
 // Whether `variable` is a variable and `atom` an atom of its kind.
+#[tactic(auto, unfolding(crate::specs::Filling::of_kind))]
 pub fn fits_kind(variable: u8, atom: u8) -> bool
     ensures value { result ≡ of_kind variable atom }
 {
-    match (symbol_of(variable), symbol_of(atom)) {
+    match (Symbol::from(variable), Symbol::from(atom)) {
         (Symbol::Variable(wanted), Symbol::Atom(kind)) => wanted == kind,
         _ => false,
     }

@@ -5,6 +5,7 @@ pub mod closed;
 pub mod form;
 pub mod kind;
 pub mod reader;
+pub mod row;
 pub mod stop;
 #[cfg(test)]
 mod tests;

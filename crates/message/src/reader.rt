@@ -6,51 +6,40 @@ ghost use Rattle.message.specs.Bytes.{is_variable, is_locking};
 ghost use Rattle.message.specs.Trees.{size, reads, closed};
 ghost use Rattle.message.specs.Variables.{among};
 
-use crate::kind::{Kind, Symbol, symbol_of};
+use crate::kind::{Kind, Symbol};
 
 // Whether `byte` may lock: a key, or a variable that stands for one.
+#[tactic(auto, unfolding(crate::specs::Bytes::is_locking))]
 fn can_lock(byte: u8) -> bool
     ensures value { result ≡ is_locking byte }
 {
-    match symbol_of(byte) {
-        Symbol::Atom(Kind::SharedKey | Kind::PairKey) => true,
-        Symbol::Variable(Kind::SharedKey | Kind::PairKey) => true,
-        _ => false,
-    }
+    matches!(
+        Symbol::from(byte),
+        Symbol::Atom(Kind::SharedKey | Kind::PairKey)
+            | Symbol::Variable(Kind::SharedKey | Kind::PairKey)
+    )
 }
 
 // Whether `byte` is a variable.
+#[tactic(auto, unfolding(crate::specs::Bytes::is_variable))]
 pub fn is_variable(byte: u8) -> bool
     ensures value { result ≡ is_variable byte }
 {
-    match symbol_of(byte) {
-        Symbol::Variable(_) => true,
-        _ => false,
-    }
+    matches!(Symbol::from(byte), Symbol::Variable(_))
 }
 
 // Whether no byte is a variable.
 pub(crate) fn is_closed(bytes: &[u8]) -> bool
     ensures value { result ≡ closed bytes.now }
 {
-    for byte in bytes {
-        if is_variable(*byte) {
-            return false;
-        }
-    }
-    true
+    !bytes.iter().any(|byte| is_variable(*byte))
 }
 
 // Whether `byte` occurs in `bytes`.
 pub fn occurs(byte: u8, bytes: &[u8]) -> bool
     ensures value { result ≡ among byte bytes.now }
 {
-    for other in bytes {
-        if byte == *other {
-            return true;
-        }
-    }
-    false
+    bytes.contains(&byte)
 }
 
 // Whether two byte strings are the same.
@@ -65,23 +54,18 @@ pub fn form_length(bytes: &[u8]) -> Option<usize>
     ensures reads { (f : ℕ) → length bytes.now ≤ f → result ≡ option_map size (reads f bytes.now) }
     ensures within { IfSome result (λ n. (0 < n) × (n ≤ length bytes.now)) }
 {
-    if bytes.len() < 1 {
-        return None;
-    }
-    match symbol_of(bytes[0]) {
+    let (first, rest) = bytes.split_first()?;
+    match Symbol::from(*first) {
         Symbol::Atom(_) | Symbol::Variable(_) => Some(1),
         Symbol::Join => {
-            let left = form_length(&bytes[1..])?;
-            let right = form_length(&bytes[1 + left..])?;
+            let left = form_length(rest)?;
+            let right = form_length(&rest[left..])?;
             Some(1 + left + right)
         }
-        Symbol::Lock => {
-            if bytes.len() < 2 || !can_lock(bytes[1]) {
-                return None;
-            }
-            let inside = form_length(&bytes[2..])?;
-            Some(2 + inside)
-        }
+        Symbol::Lock => match rest {
+            [key, inside @ ..] if can_lock(*key) => Some(2 + form_length(inside)?),
+            _ => None,
+        },
         Symbol::Unused => None,
     }
 }

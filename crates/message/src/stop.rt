@@ -5,59 +5,59 @@ ghost use Rattle.message.specs.Stops.{number_of};
 #[derive(Clone, Copy, PartialEq, Eq, Debug)]
 pub enum Stop {
     // a file of over 8,192 bytes
-    FileTooLong,
+    FileTooLong = 1,
     // a field's header or value, or the end field, is not there or cut short
-    Incomplete,
+    Incomplete = 2,
     // a tag that is not known or stands out of order, or a field after the end
-    MisplacedTag,
+    MisplacedTag = 3,
     // another length than the tag allows
-    WrongLength,
+    WrongLength = 4,
     // a label with a byte below 21 or above 7E
-    BadLabel,
+    BadLabel = 5,
     // not one form of 1 to 24 bytes
-    NotOneForm,
+    NotOneForm = 6,
     // a variable where a message is due
-    VariableInMessage,
+    VariableInMessage = 7,
     // an atom that is used and not declared by then
-    UndeclaredAtom,
+    UndeclaredAtom = 8,
     // an atom declared again, or variables that do not ascend
-    NotAscending,
+    NotAscending = 9,
     // a limit passed
-    LimitPassed,
+    LimitPassed = 10,
     // a new part of a file while a step, role, session, claim or sheet head is still owed
-    PartMissing,
+    PartMissing = 11,
     // a number beyond its range: kind, atom, mark, role or session; or a variable that no form of the role has
-    OutOfRange,
+    OutOfRange = 12,
     // a send, begin or end with a variable that has no value by then
-    UnboundVariable,
+    UnboundVariable = 13,
     // a starting value of another kind than its variable
-    WrongKind,
+    WrongKind = 14,
     // a receive with more than 3 new variables
-    TooManyNewVariables,
+    TooManyNewVariables = 15,
     // an output buffer that is too small
-    BufferTooSmall,
+    BufferTooSmall = 16,
     // no exchange is loaded
-    NoExchange,
+    NoExchange = 21,
     // an allowance of 0
-    NoAllowance,
+    NoAllowance = 22,
     // a total that would pass 4,000,000,000
-    TotalTooLarge,
+    TotalTooLarge = 23,
     // the phase is sound or broken
-    AlreadyFinished,
+    AlreadyFinished = 24,
     // the phase is not broken
-    NotBroken,
+    NotBroken = 25,
     // bytes that are not a closed form
-    NotClosedForm,
+    NotClosedForm = 31,
     // 128 messages are heard already
-    HeardEnough,
+    HeardEnough = 32,
     // a fall back that names more messages than there are
-    AboveCount,
+    AboveCount = 33,
     // a line of a sheet is not permitted
-    LineNotPermitted,
+    LineNotPermitted = 41,
     // the claim holds at the end of the run
-    ClaimHolds,
+    ClaimHolds = 42,
     // a claim number that the exchange does not have
-    NoSuchClaim,
+    NoSuchClaim = 43,
 }
 
 impl Stop {
@@ -65,34 +65,6 @@ impl Stop {
     pub fn number(self) -> u8
         ensures value { result ≡ number_of self }
     {
-        match self {
-            Stop::FileTooLong => 1,
-            Stop::Incomplete => 2,
-            Stop::MisplacedTag => 3,
-            Stop::WrongLength => 4,
-            Stop::BadLabel => 5,
-            Stop::NotOneForm => 6,
-            Stop::VariableInMessage => 7,
-            Stop::UndeclaredAtom => 8,
-            Stop::NotAscending => 9,
-            Stop::LimitPassed => 10,
-            Stop::PartMissing => 11,
-            Stop::OutOfRange => 12,
-            Stop::UnboundVariable => 13,
-            Stop::WrongKind => 14,
-            Stop::TooManyNewVariables => 15,
-            Stop::BufferTooSmall => 16,
-            Stop::NoExchange => 21,
-            Stop::NoAllowance => 22,
-            Stop::TotalTooLarge => 23,
-            Stop::AlreadyFinished => 24,
-            Stop::NotBroken => 25,
-            Stop::NotClosedForm => 31,
-            Stop::HeardEnough => 32,
-            Stop::AboveCount => 33,
-            Stop::LineNotPermitted => 41,
-            Stop::ClaimHolds => 42,
-            Stop::NoSuchClaim => 43,
-        }
+        self as u8
     }
 }

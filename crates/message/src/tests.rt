@@ -3,6 +3,7 @@ use crate::closed::Message;
 use crate::form::Form;
 use crate::kind::inverse;
 use crate::reader::same_bytes;
+use crate::row::{Full, Row};
 use crate::values::Values;
 use std::test::Fail;
 
@@ -22,16 +23,9 @@ fn fills_a_locked_form(rt: HostRuntime) -> Result<(), Fail> {
     assert!(rt; !values.bind(0xA0, 0x50));
     assert!(rt; form.fill(&values).is_none());
     assert!(rt; values.bind(0xA0, 0x40));
-    match form.fill(&values) {
-        Some(message) => {
-            assert!(rt; same_bytes(message.bytes(), &[0xF1, 0x50, 0x40]));
-            Ok(())
-        },
-        None => {
-            assert!(rt; false);
-            Ok(())
-        },
-    }
+    let message = form.fill(&values).ok_or("a variable has no value")?;
+    assert!(rt; same_bytes(message.bytes(), &[0xF1, 0x50, 0x40]));
+    Ok(())
 }
 
 #[test]
@@ -49,16 +43,9 @@ fn compares_by_bytes(rt: HostRuntime) -> Result<(), Fail> {
     let other = Form::read(&[0xF1, 0x60, 0x41])?;
     assert!(rt; lock == Form::read(&[0xF1, 0x60, 0x40])?);
     assert!(rt; !(lock == other));
-    match Message::read(lock.bytes()) {
-        Some(message) => {
-            assert!(rt; message == message && message.form() == lock);
-            Ok(())
-        },
-        None => {
-            assert!(rt; false);
-            Ok(())
-        },
-    }
+    let message = Message::read(lock.bytes()).ok_or("no message")?;
+    assert!(rt; message == message && message.form() == lock);
+    Ok(())
 }
 
 #[test]
@@ -74,4 +61,32 @@ fn inverts_keys(rt: HostRuntime) {
     assert_eq!(rt; inverse(0x60), Some(0x61));
     assert_eq!(rt; inverse(0x61), Some(0x60));
     assert_eq!(rt; inverse(0x40), None);
+}
+
+#[test]
+fn keeps_a_row(rt: HostRuntime) -> Result<(), Fail> {
+    let mut row: Row<u8, 3> = Row::from_slice(0, &[7, 8])?;
+    row.push(9)?;
+    assert_eq!(rt; row.push(10), Err(Full));
+    assert!(rt; same_bytes(row.as_slice(), &[7, 8, 9]));
+    let mut other: Row<u8, 3> = Row::new(1);
+    assert!(rt; !(row == other));
+    other.push(7)?;
+    other.push(8)?;
+    other.push(9)?;
+    assert!(rt; row == other);
+    let long: Result<Row<u8, 3>, Full> = Row::from_slice(0, &[7, 8, 9, 10]);
+    assert!(rt; long.is_err());
+    Ok(())
+}
+
+#[test]
+fn notes_variables_once(rt: HostRuntime) -> Result<(), Fail> {
+    let mut row: Row<u8, 1> = Row::new(0);
+    row.note(0x40)?;
+    row.note(0xA0)?;
+    row.note(0xA0)?;
+    assert_eq!(rt; row.note(0xA1), Err(Full));
+    assert!(rt; same_bytes(row.as_slice(), &[0xA0]));
+    Ok(())
 }

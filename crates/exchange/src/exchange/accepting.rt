@@ -18,11 +18,8 @@ fn cut_field(bytes: &[u8]) -> Option<(u8, &[u8])>
     let [tag, high, low, rest @ ..] = bytes else {
         return None;
     };
-    let len = usize::from(*high) * 256 + usize::from(*low);
-    if len > rest.len() {
-        return None;
-    }
-    Some((*tag, &rest[0..len]))
+    let len = usize::from(u16::from_be_bytes([*high, *low]));
+    Some((*tag, rest.get(..len)?))
 }
 
 impl Exchange {
@@ -38,23 +35,9 @@ impl Exchange {
                 self.add_role();
                 Ok(())
             }
-            Field::Send { form } => self.add_send(form),
-            Field::Receive { form } => self.add_receive(form),
-            Field::Begin { mark, form } => self.add_begin(mark, form),
-            Field::End { mark, form } => self.add_end(mark, form),
-            Field::Session { role, bindings } => self.add_session(role, bindings),
-            Field::Secret { message } => self.add_secret(message),
-            Field::SessionSecret { session, variable } => {
-                self.add_session_secret(session, variable)
-            }
-            Field::Matched { mark } => {
-                self.add_matched(mark);
-                Ok(())
-            }
-            Field::MatchedOnce { mark } => {
-                self.add_matched_once(mark);
-                Ok(())
-            }
+            Field::Step(step) => self.add_step(step),
+            Field::Session { role, pairs } => self.add_session(role, pairs),
+            Field::Claim(claim) => self.add_claim(claim),
             Field::Finish => Ok(()),
         }
     }
@@ -86,7 +69,7 @@ impl Exchange {
         ensures within { IfOk result (λ t. (3 ≤ t.1) × (t.1 ≤ length bytes.now)) }
     {
         let (byte, value) = cut_field(bytes).ok_or(Stop::Incomplete)?;
-        let tag = Tag::of(byte).ok_or(Stop::MisplacedTag)?;
+        let tag = Tag::try_from(byte)?;
         self.take_field(last, tag, value)?;
         Ok((tag, 3 + value.len()))
     }

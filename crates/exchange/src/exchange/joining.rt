@@ -9,6 +9,7 @@ ghost use Rattle.exchange.specs.Sessions.{starts_in};
 ghost use Rattle.exchange.specs.Views.{exchange_of};
 
 use crate::exchange::Exchange;
+use crate::field::Pairs;
 use crate::following::{has_few_new, is_fillable};
 use crate::role::Role;
 use crate::session::{Binding, Session};
@@ -43,25 +44,23 @@ impl Exchange {
     }
 
     // A session of the role, which has this number, with the pairs as its starting values.
-    fn read_bindings(&self, number: u8, role: &Role, pairs: &[u8]) -> Result<Session, Stop>
-        requires short { length pairs.now ≤ 16 }
-        ensures value { read_starts result ≡ bindings_of (atoms_of (exchange_of self.now)) (role_of role.now) [] pairs.now }
+    fn read_bindings(&self, number: u8, role: &Role, pairs: Pairs<'_>) -> Result<Session, Stop>
+        ensures value { read_starts result ≡ bindings_of (atoms_of (exchange_of self.now)) (role_of role.now) [] pairs.entry.bytes.now }
         ensures number { IfOk result (λ s. s.role ≡ number) }
     {
         let mut session = Session::begin(number);
-        let mut at = 0;
-        while at + 1 < pairs.len() {
-            let binding = self.read_pair(role, &session, pairs[at], pairs[at + 1])?;
+        let mut left = pairs.bytes;
+        while let [variable, atom, rest @ ..] = left {
+            let binding = self.read_pair(role, &session, *variable, *atom)?;
             session.add(binding);
-            at += 2;
+            left = rest;
         }
         Ok(session)
     }
 
     // A session of the role that can follow it.
-    fn read_starts(&self, number: u8, role: &Role, pairs: &[u8]) -> Result<Session, Stop>
-        requires short { length pairs.now ≤ 16 }
-        ensures value { read_starts result ≡ starts_of (atoms_of (exchange_of self.now)) (role_of role.now) pairs.now }
+    fn read_starts(&self, number: u8, role: &Role, pairs: Pairs<'_>) -> Result<Session, Stop>
+        ensures value { read_starts result ≡ starts_of (atoms_of (exchange_of self.now)) (role_of role.now) pairs.entry.bytes.now }
         ensures number { IfOk result (λ s. s.role ≡ number) }
     {
         let session = self.read_bindings(number, role, pairs)?;
@@ -75,14 +74,11 @@ impl Exchange {
     }
 
     // One more session.
-    pub(crate) fn add_session(&mut self, number: u8, pairs: &[u8]) -> Result<(), Stop>
+    pub(crate) fn add_session(&mut self, number: u8, pairs: Pairs<'_>) -> Result<(), Stop>
         requires room { length (exchange_of self.old).sessions < 8 }
-        requires short { length pairs.now ≤ 16 }
-        ensures added { added result (exchange_of self.new) ≡ add_session (exchange_of self.old) number pairs.now }
+        ensures added { added result (exchange_of self.new) ≡ add_session (exchange_of self.old) number pairs.entry.bytes.now }
     {
-        let Some(role) = self.roles.get(number as usize) else {
-            return Err(Stop::OutOfRange);
-        };
+        let role = self.roles.get(usize::from(number)).ok_or(Stop::OutOfRange)?;
         let session = self.read_starts(number, role, pairs)?;
         self.sessions.push_reserved(session);
         Ok(())

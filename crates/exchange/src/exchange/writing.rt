@@ -8,75 +8,84 @@ ghost use Rattle.exchange.specs.Parts.{step_of, claim_of};
 ghost use Rattle.exchange.specs.Roles.{role_of};
 ghost use Rattle.exchange.specs.Sessions.{binding_of, session_of};
 ghost use Rattle.exchange.specs.Views.{exchange_of};
-ghost use Rattle.exchange.specs.Writing.{Puts, field_start};
+ghost use Rattle.exchange.specs.Writing.{HasRoom, Puts, field_start};
 
-use crate::claim::Claim;
+use crate::claim::{Claim, MATCHED, MATCHED_ONCE, SECRET, SESSION_SECRET};
 use crate::declaration::Declaration;
 use crate::exchange::Exchange;
 use crate::role::Role;
 use crate::session::{Binding, Session};
-use crate::step::Step;
+use crate::step::{BEGIN, END, RECEIVE, SEND, Step};
 use crate::tag::Tag;
 use message::closed::Message;
+
+// What writes a file into a buffer. `at` is the place up to which the buffer is written, and each call says how much
+// room it needs from there on.
+#[derive(Drop)]
+struct Pen<'a> {
+    out: &'a mut [u8],
+    at: usize,
+}
 
 // A part of an exchange that has bytes of its own in the file.
 trait Part {
     ghost written: { Self → List ℕ };
 
-    // Puts the bytes of the part at the place, and answers the place after them.
-    fn put(&self, out: &mut [u8], at: usize) -> usize
-        requires room { at + length (written self.now) ≤ length out.old }
-        ensures puts { Puts out.old at (written self.now) out.new result };
+    // Puts the bytes of the part.
+    fn put(&self, pen: &mut Pen<'_>)
+        requires room { HasRoom pen.old (length (written self.now)) }
+        ensures puts { Puts pen.old (written self.now) pen.new };
 }
 
-// Puts the parts one after the other.
-fn put_all<P: Part>(out: &mut [u8], at: usize, parts: &[P]) -> usize
-    requires room { at + length (flat_map P.Part.written parts.now) ≤ length out.old }
-    ensures puts { Puts out.old at (flat_map P.Part.written parts.now) out.new result }
-{
-    let mut end = at;
-    for part in parts {
-        end = part.put(out, end);
+impl Pen<'_> {
+    // Puts bytes.
+    fn bytes(&mut self, bytes: &[u8])
+        requires room { HasRoom self.old (length bytes.now) }
+        ensures puts { Puts self.old bytes.now self.new }
+    {
+        let end = self.at + bytes.len();
+        self.out[self.at..end].copy_from_slice(bytes);
+        self.at = end;
     }
-    end
-}
 
-// Puts the bytes at the place, and answers the place after them.
-fn put_bytes(out: &mut [u8], at: usize, bytes: &[u8]) -> usize
-    requires room { at + length bytes.now ≤ length out.old }
-    ensures puts { Puts out.old at bytes.now out.new result }
-{
-    let end = at + bytes.len();
-    out[at..end].copy_from_slice(bytes);
-    end
-}
+    // Puts the tag of a field and the length of its value.
+    fn start(&mut self, tag: Tag, len: usize)
+        requires short { len < 65536 }
+        requires room { HasRoom self.old 3 }
+        ensures puts { Puts self.old (field_start (tag_byte tag) len) self.new }
+    {
+        let [high, low] = (len as u16).to_be_bytes();
+        self.bytes(&[tag as u8, high, low]);
+    }
 
-// Puts the tag of a field and the length of its value.
-fn put_start(out: &mut [u8], at: usize, tag: Tag, len: usize) -> usize
-    requires short { len < 65536 }
-    requires room { at + 3 ≤ length out.old }
-    ensures puts { Puts out.old at (field_start (tag_byte tag) len) out.new result }
-{
-    put_bytes(out, at, &[tag.byte(), (len / 256) as u8, (len % 256) as u8])
-}
+    // Puts a field whose value is the two pieces.
+    fn field(&mut self, tag: Tag, head: &[u8], tail: &[u8])
+        requires short { length head.now + length tail.now < 65536 }
+        requires room { HasRoom self.old (length (field (tag_byte tag) (head.now ++ tail.now))) }
+        ensures puts { Puts self.old (field (tag_byte tag) (head.now ++ tail.now)) self.new }
+    {
+        self.start(tag, head.len() + tail.len());
+        self.bytes(head);
+        self.bytes(tail);
+    }
 
-// Puts a field whose value is the two pieces.
-fn put_field(out: &mut [u8], at: usize, tag: Tag, head: &[u8], tail: &[u8]) -> usize
-    requires short { length head.now + length tail.now < 65536 }
-    requires room { at + length (field (tag_byte tag) (head.now ++ tail.now)) ≤ length out.old }
-    ensures puts { Puts out.old at (field (tag_byte tag) (head.now ++ tail.now)) out.new result }
-{
-    let value = put_start(out, at, tag, head.len() + tail.len());
-    let middle = put_bytes(out, value, head);
-    put_bytes(out, middle, tail)
+    // Puts parts one after the other.
+    fn parts<P: Part>(&mut self, parts: &[P])
+        requires room { HasRoom self.old (length (flat_map P.Part.written parts.now)) }
+        ensures puts { Puts self.old (flat_map P.Part.written parts.now) self.new }
+    {
+        for part in parts {
+            part.put(self);
+        }
+    }
 }
 
 // A declared atom: the atom and its label.
 impl Part for Declaration {
     ghost written = { λ d. declaration_field (declaration_of d) };
 
-    fn put(&self, out: &mut [u8], at: usize) -> usize {
-        put_field(out, at, Tag::AtomTag, &[self.atom], self.label.bytes())
+    fn put(&self, pen: &mut Pen<'_>) {
+        pen.field(Tag::AtomTag, &[self.atom], self.label.bytes());
     }
 }
 
@@ -84,8 +93,8 @@ impl Part for Declaration {
 impl Part for Message {
     ghost written = { λ m. opening_field (message_text m) };
 
-    fn put(&self, out: &mut [u8], at: usize) -> usize {
-        put_field(out, at, Tag::OpeningTag, &[], self.bytes())
+    fn put(&self, pen: &mut Pen<'_>) {
+        pen.field(Tag::OpeningTag, &[], self.bytes());
     }
 }
 
@@ -93,18 +102,12 @@ impl Part for Message {
 impl Part for Step {
     ghost written = { λ s. step_field (step_of s) };
 
-    fn put(&self, out: &mut [u8], at: usize) -> usize {
-        match *self {
-            Step::Send(form) => put_field(out, at, Tag::StepTag, &[1], form.bytes()),
-            Step::Receive(form) => put_field(out, at, Tag::StepTag, &[2], form.bytes()),
-            Step::Begin { mark, form } => put_field(
-                out,
-                at,
-                Tag::StepTag,
-                &[3, mark],
-                form.bytes(),
-            ),
-            Step::End { mark, form } => put_field(out, at, Tag::StepTag, &[4, mark], form.bytes()),
+    fn put(&self, pen: &mut Pen<'_>) {
+        match self {
+            Step::Send(form) => pen.field(Tag::StepTag, &[SEND], form.bytes()),
+            Step::Receive(form) => pen.field(Tag::StepTag, &[RECEIVE], form.bytes()),
+            Step::Begin { mark, form } => pen.field(Tag::StepTag, &[BEGIN, *mark], form.bytes()),
+            Step::End { mark, form } => pen.field(Tag::StepTag, &[END, *mark], form.bytes()),
         }
     }
 }
@@ -113,9 +116,9 @@ impl Part for Step {
 impl Part for Role {
     ghost written = { λ role. role_fields (role_of role) };
 
-    fn put(&self, out: &mut [u8], at: usize) -> usize {
-        let first = put_start(out, at, Tag::RoleTag, 0);
-        put_all(out, first, self.steps())
+    fn put(&self, pen: &mut Pen<'_>) {
+        pen.start(Tag::RoleTag, 0);
+        pen.parts(self.steps());
     }
 }
 
@@ -123,8 +126,8 @@ impl Part for Role {
 impl Part for Binding {
     ghost written = { λ b. binding_bytes (binding_of b) };
 
-    fn put(&self, out: &mut [u8], at: usize) -> usize {
-        put_bytes(out, at, &[self.variable, self.atom])
+    fn put(&self, pen: &mut Pen<'_>) {
+        pen.bytes(&[self.variable, self.atom]);
     }
 }
 
@@ -132,11 +135,11 @@ impl Part for Binding {
 impl Part for Session {
     ghost written = { λ s. session_field (session_of s) };
 
-    fn put(&self, out: &mut [u8], at: usize) -> usize {
+    fn put(&self, pen: &mut Pen<'_>) {
         let bindings = self.bindings();
-        let value = put_start(out, at, Tag::SessionTag, 1 + 2 * bindings.len());
-        let first = put_bytes(out, value, &[self.role()]);
-        put_all(out, first, bindings)
+        pen.start(Tag::SessionTag, 1 + 2 * bindings.len());
+        pen.bytes(&[self.role()]);
+        pen.parts(bindings);
     }
 }
 
@@ -144,30 +147,33 @@ impl Part for Session {
 impl Part for Claim {
     ghost written = { λ c. claim_field (claim_of c) };
 
-    fn put(&self, out: &mut [u8], at: usize) -> usize {
-        match *self {
-            Claim::Secret(message) => put_field(out, at, Tag::ClaimTag, &[1], message.bytes()),
+    fn put(&self, pen: &mut Pen<'_>) {
+        match self {
+            Claim::Secret(message) => pen.field(Tag::ClaimTag, &[SECRET], message.bytes()),
             Claim::SessionSecret { session, variable } => {
-                put_field(out, at, Tag::ClaimTag, &[2, session, variable], &[])
+                pen.field(Tag::ClaimTag, &[SESSION_SECRET, *session, *variable], &[]);
             }
-            Claim::Matched { mark } => put_field(out, at, Tag::ClaimTag, &[3, mark], &[]),
-            Claim::MatchedOnce { mark } => put_field(out, at, Tag::ClaimTag, &[4, mark], &[]),
+            Claim::Matched { mark } => pen.field(Tag::ClaimTag, &[MATCHED, *mark], &[]),
+            Claim::MatchedOnce { mark } => pen.field(Tag::ClaimTag, &[MATCHED_ONCE, *mark], &[]),
         }
     }
 }
 
 impl Exchange {
     // Writes the file of the exchange at the front of the buffer, and answers how many bytes it has; the rest stays.
+    #[tactic(auto, using(crate::proofs::Putting::file_length))]
     pub(crate) fn write(&self, out: &mut [u8]) -> usize
         requires room { length (file_bytes (exchange_of self.now)) ≤ length out.old }
         ensures size { result ≡ length (file_bytes (exchange_of self.now)) }
         ensures bytes { out.new ≡ file_bytes (exchange_of self.now) ++ drop (length (file_bytes (exchange_of self.now))) out.old }
     {
-        let opening = put_all(out, 0, self.atoms.as_slice());
-        let roles = put_all(out, opening, self.opening.as_slice());
-        let sessions = put_all(out, roles, self.roles.as_slice());
-        let claims = put_all(out, sessions, self.sessions.as_slice());
-        let end = put_all(out, claims, self.claims.as_slice());
-        put_start(out, end, Tag::EndTag, 0)
+        let mut pen = Pen { out, at: 0 };
+        pen.parts(&self.atoms);
+        pen.parts(&self.opening);
+        pen.parts(&self.roles);
+        pen.parts(&self.sessions);
+        pen.parts(&self.claims);
+        pen.start(Tag::EndTag, 0);
+        pen.at
     }
 }

@@ -1,9 +1,11 @@
 ghost use Rattle.std.specs.Prelude.{◌≡◌};
 ghost use Rattle.exchange.specs.declared.tag.Tag.TheVariants.{StepTag, ClaimTag};
 ghost use Rattle.exchange.specs.Checks.{item_of, value_item};
-ghost use Rattle.exchange.specs.Fields.{seen};
+ghost use Rattle.exchange.specs.Fields.{step_read, claim_read, seen};
 
-use crate::field::Field;
+use crate::claim::{Claim, MATCHED, MATCHED_ONCE, SECRET, SESSION_SECRET};
+use crate::field::{Field, Pairs};
+use crate::step::{BEGIN, END, RECEIVE, SEND, Step};
 use crate::tag::Tag;
 use message::stop::Stop;
 
@@ -22,47 +24,51 @@ impl<'f> Field<'f> {
             },
             Tag::OpeningTag => Ok(Field::Opening { message: value }),
             Tag::RoleTag => Ok(Field::Role),
-            Tag::StepTag => Field::read_step(value),
+            Tag::StepTag => Step::read(value).map(Field::Step),
             Tag::SessionTag => match value {
-                [role, bindings @ ..] => Ok(Field::Session {
+                [role, bytes @ ..] => Ok(Field::Session {
                     role: *role,
-                    bindings,
+                    pairs: Pairs { bytes },
                 }),
                 [] => Err(Stop::WrongLength),
             },
-            Tag::ClaimTag => Field::read_claim(value),
+            Tag::ClaimTag => Claim::read(value).map(Field::Claim),
             Tag::EndTag => Ok(Field::Finish),
         }
     }
+}
 
+impl<'f> Step<&'f [u8]> {
     // A step: its kind, the mark of a begin or end, and its form.
-    fn read_step(value: &'f [u8]) -> Result<Field<'f>, Stop>
-        ensures value { seen result ≡ value_item StepTag value.now }
+    fn read(value: &'f [u8]) -> Result<Self, Stop>
+        ensures value { step_read result ≡ value_item StepTag value.now }
     {
         match value {
-            [1, form @ ..] => Ok(Field::Send { form }),
-            [2, form @ ..] => Ok(Field::Receive { form }),
-            [3, mark, form @ ..] if *mark < 16 => Ok(Field::Begin { mark: *mark, form }),
-            [4, mark, form @ ..] if *mark < 16 => Ok(Field::End { mark: *mark, form }),
+            [SEND, form @ ..] => Ok(Step::Send(form)),
+            [RECEIVE, form @ ..] => Ok(Step::Receive(form)),
+            [BEGIN, mark, form @ ..] if *mark < 16 => Ok(Step::Begin { mark: *mark, form }),
+            [END, mark, form @ ..] if *mark < 16 => Ok(Step::End { mark: *mark, form }),
             [] => Err(Stop::WrongLength),
             _ => Err(Stop::OutOfRange),
         }
     }
+}
 
+impl<'f> Claim<&'f [u8]> {
     // A claim: its kind, its exact length, and its parts.
-    fn read_claim(value: &'f [u8]) -> Result<Field<'f>, Stop>
-        ensures value { seen result ≡ value_item ClaimTag value.now }
+    fn read(value: &'f [u8]) -> Result<Self, Stop>
+        ensures value { claim_read result ≡ value_item ClaimTag value.now }
     {
         match value {
-            [1, message @ ..] => Ok(Field::Secret { message }),
-            [2, session, variable] => Ok(Field::SessionSecret {
+            [SECRET, message @ ..] => Ok(Claim::Secret(message)),
+            [SESSION_SECRET, session, variable] => Ok(Claim::SessionSecret {
                 session: *session,
                 variable: *variable,
             }),
-            [3, mark] if *mark < 16 => Ok(Field::Matched { mark: *mark }),
-            [4, mark] if *mark < 16 => Ok(Field::MatchedOnce { mark: *mark }),
-            [3 | 4, _] => Err(Stop::OutOfRange),
-            [] | [2..=4, ..] => Err(Stop::WrongLength),
+            [MATCHED, mark] if *mark < 16 => Ok(Claim::Matched { mark: *mark }),
+            [MATCHED_ONCE, mark] if *mark < 16 => Ok(Claim::MatchedOnce { mark: *mark }),
+            [MATCHED | MATCHED_ONCE, _] => Err(Stop::OutOfRange),
+            [] | [SESSION_SECRET | MATCHED | MATCHED_ONCE, ..] => Err(Stop::WrongLength),
             _ => Err(Stop::OutOfRange),
         }
     }

@@ -9,15 +9,12 @@ use crate::names::Names;
 use crate::role::Role;
 use crate::step::Step;
 use message::form::Form;
-use message::reader::occurs;
+use message::row::Row;
 use message::stop::Stop;
 
 // What stands in a role's places that have no step yet: a send of the name 00.
 fn filler() -> Step {
-    match Form::read(&[0]) {
-        Ok(form) => Step::Send(form),
-        Err(_) => unreachable(),
-    }
+    Step::Send(Form::read(&[0]).unwrap())
 }
 
 impl Role {
@@ -26,8 +23,7 @@ impl Role {
         ensures empty { role_of result ≡ [] }
     {
         Role {
-            steps: [filler(); 12],
-            count: 0,
+            steps: Row::new(filler()),
             names: Names::none(),
         }
     }
@@ -36,7 +32,7 @@ impl Role {
     pub fn steps(&self) -> &[Step]
         ensures value { map step_of result.now ≡ role_of self.now }
     {
-        &self.steps[0..self.count as usize]
+        self.steps.as_slice()
     }
 
     // The variables of the role's forms, each once, in order of first occurrence.
@@ -52,16 +48,9 @@ impl Role {
         ensures cases { MatchResult result (λ _. (nat_le (length (role_variables (role_of self.old ++ step_of step ∷ []))) 8 ≡ true) × (role_of self.new ≡ role_of self.old ++ step_of step ∷ [])) (λ stop. (nat_le (length (role_variables (role_of self.old ++ step_of step ∷ []))) 8 ≡ false) × (stop ≡ LimitPassed)) }
     {
         let mut names = self.names;
-        if !names.note_all(step.form().bytes()) {
-            return Err(Stop::LimitPassed);
-        }
-        let mut steps = self.steps;
-        steps[self.count as usize] = step;
-        *self = Role {
-            steps,
-            count: self.count + 1,
-            names,
-        };
+        names.note_all(step.form().bytes())?;
+        self.steps.push(step).unwrap();
+        self.names = names;
         Ok(())
     }
 }

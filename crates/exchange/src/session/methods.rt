@@ -5,6 +5,7 @@ ghost use Rattle.exchange.specs.Rules.{started};
 ghost use Rattle.exchange.specs.Sessions.{binding_of, starts_in, session_of};
 
 use crate::session::{Binding, Session};
+use message::row::Row;
 
 impl Session {
     // A session of the role with no starting value yet.
@@ -18,8 +19,7 @@ impl Session {
         };
         Session {
             role,
-            bindings: [none; 8],
-            count: 0,
+            bindings: Row::new(none),
         }
     }
 
@@ -34,7 +34,7 @@ impl Session {
     pub fn bindings(&self) -> &[Binding]
         ensures value { map binding_of result.now ≡ (session_of self.now).starts }
     {
-        &self.bindings[0..self.count as usize]
+        self.bindings.as_slice()
     }
 
     // One more starting value.
@@ -43,30 +43,25 @@ impl Session {
         ensures role { self.new.role ≡ self.old.role }
         ensures starts { starts_in self.new ≡ starts_in self.old ++ binding_of binding ∷ [] }
     {
-        self.bindings[self.count as usize] = binding;
-        self.count += 1;
+        self.bindings.push(binding).unwrap();
     }
 
     // Whether the variable has a value from the start.
     pub(crate) fn starts(&self, variable: u8) -> bool
         ensures value { result ≡ among variable (started (starts_in self.now)) }
     {
-        let bindings = self.bindings();
-        for binding in bindings {
-            if variable == binding.variable {
-                return true;
-            }
-        }
-        false
+        self.bindings()
+            .iter()
+            .any(|binding| variable == binding.variable)
     }
 
     // Whether the variable may follow those that have values: it is larger than the last.
+    #[tactic(auto, using(crate::proofs::Pairing::next_is))]
     pub(crate) fn is_next(&self, variable: u8) -> bool
         ensures value { result ≡ is_next (starts_in self.now) variable }
     {
-        match self.bindings().last() {
-            Some(binding) => binding.variable < variable,
-            None => true,
-        }
+        self.bindings()
+            .last()
+            .is_none_or(|binding| binding.variable < variable)
     }
 }

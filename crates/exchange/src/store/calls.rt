@@ -16,6 +16,10 @@ use crate::refusal::Refusal;
 use crate::store::Store;
 use message::stop::Stop;
 use std::alloc::{AllocError, Global};
+use std::mem;
+
+// How many bytes a file may have.
+const LONGEST_FILE: usize = 8192;
 
 impl Store {
     // A store with nothing loaded. Only this call asks for memory.
@@ -25,8 +29,7 @@ impl Store {
         Ok(Store {
             exchange: Exchange::new(heap)?,
             spare: Exchange::new(heap)?,
-            loaded: false,
-            size: 0,
+            size: None,
         })
     }
 
@@ -35,11 +38,7 @@ impl Store {
         ensures value { option_map lent result ≡ held self.now }
         ensures fit { IfSome result (λ e. Fit (lent e)) }
     {
-        if self.loaded {
-            Some(&self.exchange)
-        } else {
-            None
-        }
+        self.size.map(|_| &self.exchange)
     }
 
     // Loads a file. Where it is refused, all stands as before.
@@ -49,7 +48,7 @@ impl Store {
         ensures exactly { results.MatchResult result (λ _. (x : Model) × Fit x × (file_bytes x ≡ file.now) × (held self.new ≡ Some x)) (λ _. (x : Model) → Fit x → file_bytes x ≢ file.now) }
         ensures lossless { Lossless }
     {
-        if file.len() > 8192 {
+        if file.len() > LONGEST_FILE {
             return Err(Refusal {
                 stop: Stop::FileTooLong,
                 place: 0,
@@ -57,20 +56,9 @@ impl Store {
         }
         self.spare.clear();
         read_fields(&mut self.spare, file)?;
-        self.take_over(file.len());
+        mem::swap(&mut self.exchange, &mut self.spare);
+        self.size = Some(file.len());
         Ok(())
-    }
-
-    // Puts what was read into the place of what was loaded before.
-    fn take_over(&mut self, size: usize)
-        requires fit { is_fit (exchange_of self.old.spare) ≡ true }
-        requires sized { size ≡ length (file_bytes (exchange_of self.old.spare)) }
-        ensures held { held self.new ≡ Some (exchange_of self.old.spare) }
-    {
-        self.loaded = false;
-        std::mem::swap(&mut self.exchange, &mut self.spare);
-        self.size = size;
-        self.loaded = true;
     }
 
     // Writes the file of the exchange that is loaded at the front of the buffer, and answers how many bytes it has.
@@ -79,10 +67,8 @@ impl Store {
         ensures bytes { out.new ≡ written (held self.now) out.old }
         ensures loads_again { IfSome (held self.now) (λ x. loads (file_bytes x) ≡ accepted x) }
     {
-        if !self.loaded {
-            return Err(Stop::NoExchange);
-        }
-        if self.size > out.len() {
+        let size = self.size.ok_or(Stop::NoExchange)?;
+        if size > out.len() {
             return Err(Stop::BufferTooSmall);
         }
         Ok(self.exchange.write(out))

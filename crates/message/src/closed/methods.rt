@@ -3,12 +3,10 @@ ghost use Rattle.std.specs.Str.{bytes_eq};
 ghost use Rattle.message.specs.Forms.{text};
 ghost use Rattle.message.specs.Messages.{message_text, OneMessage};
 ghost use Rattle.message.specs.Trees.{Tree, write, closed, is_message, Fits};
-ghost use Rattle.std.specs.Cmp.Rules.{comparing};
-ghost use Rattle.std.proofs.Common.{rules};
 
 use crate::closed::Message;
 use crate::form::Form;
-use crate::reader::{is_closed, same_bytes};
+use crate::reader::is_closed;
 
 impl Form {
     // The form as a message, where it has no variable.
@@ -25,14 +23,13 @@ impl Form {
 
 impl Message {
     // The message that all the bytes are, or nothing where they are no closed form.
+    #[tactic(auto, using(crate::proofs::OneValue::one_message))]
     pub fn read(bytes: &[u8]) -> Option<Message>
         ensures value { MatchOption result (is_message bytes.now ≡ false) (λ m. (is_message bytes.now ≡ true) × (message_text m ≡ bytes.now)) }
         ensures one_value { OneMessage }
+        ensures equal { (a b : Message) → ⟦<Message as PartialEq>⟧.eq a b ≡ bytes_eq (message_text a) (message_text b) }
     {
-        match Form::read(bytes) {
-            Ok(form) => form.message(),
-            Err(_) => None,
-        }
+        Form::read(bytes).ok()?.message()
     }
 
     // The message as a form.
@@ -48,16 +45,5 @@ impl Message {
         ensures value { result.now ≡ message_text self.now }
     {
         self.form.bytes()
-    }
-}
-
-// Messages are equal where their bytes are.
-impl PartialEq for Message {
-    ghost eq = { λ a b. bytes_eq (message_text a) (message_text b) };
-
-    ghost laws = { Prim.search (comparing, rules) };
-
-    fn eq(&self, other: &Message) -> bool {
-        same_bytes(self.bytes(), other.bytes())
     }
 }

@@ -9,6 +9,7 @@ ghost use Rattle.message.specs.Values.{value_in};
 use crate::closed::Message;
 use crate::form::Form;
 use crate::reader::is_variable;
+use crate::row::Row;
 use crate::values::Values;
 
 // What `byte` is replaced by: a variable by its value, if it has one, and any other byte by itself.
@@ -28,14 +29,11 @@ impl Form {
         ensures value { option_map message_text result ≡ filled (value_in values.now) (text self.now) }
         ensures tree { (t : Tree) → form_of (text self.now) ≡ Some t → MatchOption result (fill_tree (value_in values.now) t ≡ None) (λ m. (u : Tree) × (fill_tree (value_in values.now) t ≡ Some u) × (message_of (message_text m) ≡ Some u)) }
     {
-        let mut bytes = self.bytes;
-        for i in 0..self.len as usize {
-            bytes[i] = replacement(bytes[i], values)?;
+        let mut bytes = Row::new(0);
+        for byte in self.bytes() {
+            bytes.push(replacement(*byte, values)?).unwrap();
         }
-        let form = Form {
-            bytes,
-            len: self.len,
-        };
+        let form = Form { bytes };
         Some(Message { form })
     }
 }

@@ -1,4 +1,4 @@
-ghost use Rattle.std.specs.Prelude.{◌≡◌, ℕ, true, false, Some, None};
+ghost use Rattle.std.specs.Prelude.{◌≡◌, ℕ, ◌-◌, ◌<◌, true, false, Some, None, MatchOption};
 ghost use Rattle.message.specs.Bytes.{is_variable};
 ghost use Rattle.message.specs.Filling.{of_kind, fitting};
 ghost use Rattle.message.specs.Values.{value_in};
@@ -6,6 +6,16 @@ ghost use Rattle.message.specs.Values.{value_in};
 use crate::kind::fits_kind;
 use crate::reader::is_variable;
 use crate::values::Values;
+
+// The place of a variable's value; nothing where the byte is no variable.
+fn place_of(variable: u8) -> Option<usize>
+    ensures place { MatchOption result (is_variable variable ≡ false) (λ place. (is_variable variable ≡ true) × (place ≡ variable - 0x80) × (place < 80)) }
+{
+    if !is_variable(variable) {
+        return None;
+    }
+    Some(usize::from(variable - 0x80))
+}
 
 impl Values {
     // No variable has a value.
@@ -20,24 +30,24 @@ impl Values {
         ensures value { result ≡ value_in self.now variable }
         ensures fits { fitting variable result ≡ true }
     {
-        if !is_variable(variable) {
-            return None;
-        }
-        self.atoms[(variable - 0x80) as usize]
+        self.atoms[place_of(variable)?]
     }
 
-    // Gives `variable` the value `atom`; refused, with nothing changed, where the atom is not of the variable's kind.
+    // Gives `variable` the value `atom`; refused, with nothing changed, where the atom is not of the variable's kind. The
+    // answer is that test, and names no stop: its callers have stops of their own.
     pub fn bind(&mut self, variable: u8, atom: u8) -> bool
         ensures answer { result ≡ of_kind variable atom }
         ensures bound { result ≡ true → value_in self.new variable ≡ Some atom }
         ensures others { (v : ℕ) → (v ≡ variable → ⊥) → value_in self.new v ≡ value_in self.old v }
         ensures refused { result ≡ false → self.new ≡ self.old }
     {
-        if !fits_kind(variable, atom) {
-            return false;
+        match place_of(variable) {
+            Some(place) if fits_kind(variable, atom) => {
+                self.atoms[place] = Some(atom);
+                true
+            }
+            _ => false,
         }
-        self.atoms[(variable - 0x80) as usize] = Some(atom);
-        true
     }
 
     // Takes the value of `variable` away.
@@ -46,8 +56,8 @@ impl Values {
         ensures others { (v : ℕ) → (v ≡ variable → ⊥) → value_in self.new v ≡ value_in self.old v }
         ensures no_variable { is_variable variable ≡ false → self.new ≡ self.old }
     {
-        if is_variable(variable) {
-            self.atoms[(variable - 0x80) as usize] = None;
+        if let Some(place) = place_of(variable) {
+            self.atoms[place] = None;
         }
     }
 }

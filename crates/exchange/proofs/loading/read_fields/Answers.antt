@@ -1,4 +1,4 @@
-use Rattle.std.proofs.Common.{◌≡◌, suc, ◌+◌, ◌-◌, ◌≤◌, length, take, drop, None, Ok, Err, sym, ap, ◌∙◌, arith}
+use Rattle.std.proofs.Common.{◌≡◌, suc, ◌+◌, ◌-◌, ◌≤◌, length, take, drop, None, Ok, Err, sym, ap, ◌∙◌, arith, rules}
 use Rattle.std.proofs.lemmas.List.{take_rest, length-drop}
 use Rattle.std.proofs.lemmas.Result.{err_from_is_err_and, IfOk-at_ok}
 use Rattle.exchange.specs.Answers.{outcome_of}
@@ -19,7 +19,7 @@ took c =
     let file = c.args.file.now in
     let at = c.loop-last.at in
     let r = c.read_field.result in
-    let came = placed_ok r at (c.in_ok-tag.tag, c.in_ok-tag.size) c.in_ok-tag.ensures.value in
+    let came = placed_ok _ r c.map_err.result (c.in_ok-tag.tag, c.in_ok-tag.size) c.map_err.ensures.cases c.in_ok-tag.was in
     let within = IfOk-at_ok (λ t. (3 ≤ t.1) × (t.1 ≤ length (take (length file - at) (drop at file)))) came c.read_field.ensures.within in
     record {
       turns = ap (turn c.loop-last.last (exchange_of c.loop-last.draft)) (sym (take_rest file at)) ∙ (sym c.read_field.ensures.turn ∙ ap (λ q. turned q (exchange_of c.read_field.new.self)) came);
@@ -39,12 +39,6 @@ loop-last-init c =
     let len = length c.args.file.now in
     (omega arith, (suc len, omega arith, ap (reading (suc len) c.args.file.now 0 None) c.requires.empty))
 
-pub loop-last-smaller : goal.loop-last-smaller
-loop-last-smaller c = omega (arith, (took c).some, (took c).inside)
-
-pub overflow_add-at : goal.overflow_add-at
-overflow_add-at c = omega (arith, (took c).inside, c.well_formed)
-
 pub returns-in_err-tag : goal.returns-in_err-tag
 returns-in_err-tag c =
     let file = c.args.file.now in
@@ -54,7 +48,7 @@ returns-in_err-tag c =
     let y = exchange_of c.read_field.new.self in
     let e = c.in_err-tag.field-0.0 in
     let p = err_from_is_err_and c.from_residual.result c.from_residual.ensures.1 in
-    let q = placed_err c.read_field.result at e c.in_err-tag.ensures.value in
+    let q = placed_err _ c.read_field.result c.map_err.result at e (λ stop f h. search rules) c.map_err.ensures.cases c.in_err-tag.was in
     let turns : turn c.loop-last.last x (drop at file) ≡ Err e.stop = ap (turn c.loop-last.last x) (sym (take_rest file at)) ∙ (sym c.read_field.ensures.turn ∙ ap (λ r. turned r y) q.0) in
     record {
       outcome =

@@ -1,22 +1,12 @@
-use Rattle.std.proofs.Common.{◌+◌, get_or, drop, sym, ◌∙◌}
-use Rattle.std.proofs.lemmas.List.{at_drop_more, at_drop_all}
-use Rattle.message.specs.Trees.{closed}
-use Rattle.message.proofs.NoVariable.{closed_on, closed_stops}
+use Rattle.std.proofs.Common.{rules, tests, not, sym, ap, ◌∙◌}
+use Rattle.std.proofs.lemmas.Iterator.{YieldsList-from_slice}
+use Rattle.std.proofs.lemmas.Iterator.Search.{any_from_yields_List}
+use Rattle.message.specs.Bytes.{is_variable}
+use Rattle.message.proofs.NoVariable.{closed_is}
 use Rattle.message.proofs.reader.is_closed.Goals as goal
 
-pub returns-then-is_variable : goal.returns-then-is_variable
-returns-then-is_variable c =
-    let bs = c.args.bytes.now in
-    let i = c.loop-byte.byte-index in
-    let b = get_or bs i 0 in
-    record { value = sym (closed_stops b (drop (i + 1) bs) (sym c.if-is_variable.ensures.value)) ∙ sym (at_drop_more closed bs i 0 c.loop-byte-test.true) ∙ c.loop-byte.invariant }
-
-pub loop-byte-preserved : goal.loop-byte-preserved
-loop-byte-preserved c =
-    let bs = c.args.bytes.now in
-    let i = c.loop-byte.byte-index in
-    let b = get_or bs i 0 in
-    sym (closed_on b (drop (i + 1) bs) (sym c.if-is_variable.ensures.value)) ∙ sym (at_drop_more closed bs i 0 c.loop-byte-test.true) ∙ c.loop-byte.invariant
-
 pub returns : goal.returns
-returns c = record { value = sym (at_drop_all closed c.args.bytes.now c.loop-byte.byte-index c.loop-byte-test.false) ∙ c.loop-byte.invariant }
+returns c =
+    let bs = c.args.bytes.now in
+    let told = any_from_yields_List is_variable _ _ c.any.result c.any.ensures.ran (YieldsList-from_slice bs cc) (λ x b q k. search (rules, tests)) in
+    record { value = ap not told ∙ sym (closed_is bs) }

@@ -1,10 +1,9 @@
 use Rattle.std.proofs.Common.{vec_items, sym, ap, ◌∙◌, arith}
+use Rattle.std.specs.List.{list_all}
 use Rattle.message.specs.Bytes.{is_atom}
-use Rattle.exchange.specs.Atoms.{declaration_of, atoms_in}
-use Rattle.exchange.specs.Labels.{label_text}
-use Rattle.exchange.specs.Rules.{each, once}
-use Rattle.exchange.specs.Views.{exchange_of}
-use Rattle.exchange.proofs.Adding.{push_seen, declaration_added, atoms_more, atom_room}
+use Rattle.exchange.specs.Atoms.{atoms_in}
+use Rattle.exchange.specs.Rules.{once}
+use Rattle.exchange.proofs.Adding.{atoms_more, atom_room}
 use Rattle.exchange.proofs.Each.{each_push, once_push}
 use Rattle.exchange.proofs.exchange.Exchange.add_declaration.Goals as goal
 
@@ -25,13 +24,6 @@ invariant_of-self c =
       role_room = self.role_room;
       session_room = self.session_room;
       claim_room = self.claim_room;
-      atoms_are = ap (each is_atom) more ∙ each_push is_atom (atoms_in items) a self.atoms_are (sym c.if-not-is_atom.ensures.value);
+      atoms_are = ap (list_all is_atom) more ∙ each_push is_atom (atoms_in items) a self.atoms_are (sym c.if-not-is_atom.ensures.value);
       atoms_once = ap once more ∙ once_push (atoms_in items) a self.atoms_once (sym c.if-declares.ensures.value);
     }
-
-pub returns : goal.returns
-returns c =
-    let self = c.args.self.now in
-    let label = c.in_ok-label.label in
-    let told = c.in_ok-label.ensures.value in
-    record { added = declaration_added (exchange_of self) c.args.atom c.args.label.now (label_text label) _ c.if-declares.ensures.value c.if-not-is_atom.ensures.value told.0 told.1 (push_seen declaration_of (vec_items self.atoms) (vec_items c.push_reserved.new.self) (record { atom = c.args.atom; label = label }) c.push_reserved.ensures.items) }

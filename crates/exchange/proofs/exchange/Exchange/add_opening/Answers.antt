@@ -1,14 +1,8 @@
-use Rattle.std.proofs.Common.{vec_items, arith}
-use Rattle.std.proofs.lemmas.List.{length-map}
+use Rattle.std.proofs.Common.{vec_items}
 use Rattle.message.specs.Messages.{message_text}
 use Rattle.exchange.specs.Views.{exchange_of}
 use Rattle.exchange.proofs.Adding.{push_seen, opening_added}
 use Rattle.exchange.proofs.exchange.Exchange.add_opening.Goals as goal
-
-pub push_reserved-requires : goal.push_reserved-requires
-push_reserved-requires c =
-    let self = c.args.self.now in
-    omega (arith, c.requires, self.opening.ok.0, length-map (vec_items self.opening) message_text, self.opening_room)
 
 pub returns : goal.returns
 returns c =

@@ -1,5 +1,4 @@
-use Rattle.std.proofs.Common.{◌≡◌, true, [], ◌∷◌, refl}
-use Rattle.std.proofs.lemmas.Bool.{both_ways}
+use Rattle.std.proofs.Common.{◌≡◌, true, [], ◌∷◌, refl, rules}
 use Rattle.message.specs.Trees.{is_form, reads}
 use Rattle.exchange.proofs.role.methods.filler.Goals as goal
 
@@ -7,5 +6,5 @@ reads_name : is_form (0 ∷ []) ≡ true
 unfolding reads
 reads_name = refl
 
-pub unreachable-requires : goal.unreachable-requires
-unreachable-requires c = both_ways (is_form (0 ∷ [])) c.in-Err.ensures.value.0 reads_name
+pub unwrap-requires : goal.unwrap-requires
+unwrap-requires c = search (rules, c.read.ensures.value, reads_name)

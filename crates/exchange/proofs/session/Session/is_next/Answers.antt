@@ -1,28 +1,25 @@
-use Rattle.std.proofs.Common.{◌<◌, ltb, map, length, sym, ap, ◌∙◌, arith}
-use Rattle.std.proofs.lemmas.List.{length-map}
-use Rattle.std.proofs.lemmas.Bool.{ltb-true, ltb-false}
+use Rattle.std.proofs.Common.{◌≡◌, ℕ, ◌-◌, Bool, true, ltb, List, map, length, None, Some, Option, sym, ap, ◌∙◌, rules}
+use Rattle.std.specs.Borrow.{Bor}
+use Rattle.std.specs.List.{slice_get}
+use Rattle.std.specs.Option.{option_copied, option_map, option_map_or, MatchOption}
+use Rattle.exchange.specs.declared.session.Binding as code
 use Rattle.exchange.specs.Checks.{is_next}
-use Rattle.exchange.specs.Sessions.{binding_of, starts_in}
-use Rattle.exchange.proofs.Pairing.{next_last, next_first}
+use Rattle.exchange.specs.Exchanges.{Binding}
+use Rattle.exchange.specs.Sessions.{binding_of}
+use Rattle.exchange.proofs.Pairing.{next_is}
 use Rattle.exchange.proofs.Places.{last_seen}
 use Rattle.exchange.proofs.session.Session.is_next.Goals as goal
 
-pub returns-in-Some : goal.returns-in-Some
-returns-in-Some c =
-    let items = c.bindings.result.now in
-    let v = c.args.variable in
-    let b = c.in-Some.binding.now in
-    let found = c.in-Some.ensures.item in
-    let some : 0 < length items = ltb-true 0 (length items) (sym found.0) in
-    let starts = starts_in c.args.self.now in
-    record {
-      value =
-          ap (λ e. ltb e.variable v) (last_seen binding_of items (binding_of b) b some found.1)
-          ∙ (sym (next_last (map binding_of items) v (binding_of b) (omega (arith, some, length-map items binding_of)))
-          ∙ ap (λ l. is_next l v) c.bindings.ensures.value);
-    }
+-- the test of the last pair, if there is one
+asks : (o : Option (Bor code.Binding)) (v : ℕ) (r : Bool) → MatchOption o (r ≡ true) (λ b. r ≡ ltb b.now.variable v) → r ≡ option_map_or (λ b. ltb b.variable v) (option_map binding_of (option_copied o)) true
+asks None v r e = e
+asks (Some b) v r e = e
 
-pub returns-in-None : goal.returns-in-None
-returns-in-None c =
-    let items = c.bindings.result.now in
-    record { value = sym (next_first (starts_in c.args.self.now) c.args.variable (omega (arith, ltb-false 0 (length items) (sym c.in-None.ensures.item.0), length-map items binding_of, ap length c.bindings.ensures.value))) }
+of_last : (o : Option (Bor code.Binding)) (items : List code.Binding) (starts : List Binding) (v : ℕ) (r : Bool) → option_copied o ≡ slice_get items (length items - 1) → map binding_of items ≡ starts → MatchOption o (r ≡ true) (λ b. r ≡ ltb b.now.variable v) → r ≡ is_next starts v
+of_last o items starts v r last is e =
+    asks o v r e
+    ∙ (ap (λ q. option_map_or (λ b. ltb b.variable v) q true) (ap (option_map binding_of) last ∙ sym (last_seen binding_of items))
+    ∙ (sym (next_is (map binding_of items) v) ∙ ap (λ l. is_next l v) is))
+
+pub returns : goal.returns
+returns c = record { value = of_last c.last.result c.bindings.result.now _ c.args.variable _ c.last.ensures.value c.bindings.ensures.value (search rules) }

@@ -1,7 +1,0 @@
-use Rattle.std.proofs.Common.{take}
-use Rattle.std.specs.List.{flat_map}
-use Rattle.exchange.specs.Writing.{Puts}
-use Rattle.exchange.proofs.exchange.writing.put_all.Given as goal
-
-abbrev pub invariant-loop-part : goal.invariant-loop-part
-invariant-loop-part g l = Puts l.initial.out l.at (flat_map g.P.Part.written (take l.part-index l.parts)) l.out l.end
