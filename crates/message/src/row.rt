@@ -7,6 +7,7 @@ mod methods;
 
 // The items stand at the front of the memory, and what fills the rest is no part of the row. A row asks for no memory
 // and is copied like a number, which the library's vectors of a fixed capacity are not.
+#[derive(Copy)]
 pub struct Row<T, const N: usize> {
     memory: [T; N],
     count: usize,
@@ -18,7 +19,7 @@ pub struct Row<T, const N: usize> {
 #[derive(Clone, Copy, PartialEq, Eq, Debug)]
 pub struct Full;
 
-// By hand, like `Copy`: neither is derived for a generic type with a ghost field.
+// By hand: `Clone` is not derived for a generic type with a ghost field.
 impl<T: Copy, const N: usize> Clone for Row<T, N> {
     ghost is_clone = { λ row copy. copy ≡ row };
 
@@ -28,5 +29,3 @@ impl<T: Copy, const N: usize> Clone for Row<T, N> {
         Ok(*self)
     }
 }
-
-impl<T: Copy, const N: usize> Copy for Row<T, N> {}
