@@ -95,7 +95,10 @@ fn hex_bytes(heap: Global, text: &[u8]) -> Result<Option<Vec<u8>>, AllocError>
         bytes.push(byte)?;
         left = skip_blanks(rest);
     }
-    Ok(left.is_empty().then_some(bytes))
+    match left {
+        [] => Ok(Some(bytes)),
+        _ => Ok(None),
+    }
 }
 
 fn hex_byte(high: u8, low: u8) -> Option<u8>

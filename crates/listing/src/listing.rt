@@ -1,10 +1,11 @@
 // A listing that is being written.
 ghost use Rattle.std.specs.Prelude.{IfSome};
-ghost use Rattle.listing.specs.Adds.{Adds};
+ghost use Rattle.listing.specs.Adds.{Added, Adds};
 
 use exchange::declaration::Declaration;
 use std::alloc::AllocError;
-use std::fmt::Display;
+use std::fmt;
+use std::fmt::{Display, Write};
 
 // The text so far, and the declared atoms, which are shown by their labels.
 #[derive(Drop)]
@@ -28,11 +29,20 @@ impl Listing<'_> {
         self.push_bytes(words.as_bytes())
     }
 
-    // What `write!` calls. The words are made first and then added, since an error of `fmt` does not say that memory is out.
+    // What `write!` calls. The words go straight to the text, so that only the text ever asks for memory; what is shown here
+    // has no other error than want of it.
     pub(crate) fn write_fmt<D: Display + Drop>(&mut self, words: D) -> Result<(), AllocError>
         ensures adds { IfSome (D.output words) (Adds result self.old self.new) }
     {
-        let words = String::format(*self.text.allocator(), words)?;
-        self.push_str(words.as_str())
+        Write::write(self, words).map_err(|_| AllocError)
+    }
+}
+
+// What `fmt` writes is added to the text.
+impl fmt::Write for Listing<'_> {
+    ghost write_str_gives = { λ before words after. Added before after words };
+
+    fn write_str(&mut self, words: &str) -> fmt::Result {
+        self.push_str(words).map_err(|_| fmt::Error)
     }
 }

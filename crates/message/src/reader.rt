@@ -39,7 +39,7 @@ pub(crate) fn is_closed(bytes: &[u8]) -> bool
 pub fn occurs(byte: u8, bytes: &[u8]) -> bool
     ensures value { result ≡ among byte bytes.now }
 {
-    bytes.contains(&byte)
+    bytes.iter().any(|other| byte == *other)
 }
 
 // Whether two byte strings are the same.

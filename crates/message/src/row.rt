@@ -9,8 +9,8 @@ mod methods;
 // and is copied like a number, which the library's vectors of a fixed capacity are not.
 #[derive(Copy)]
 pub struct Row<T, const N: usize> {
-    memory: [T; N],
-    count: usize,
+    pub(crate) memory: [T; N],
+    pub(crate) count: usize,
     ghost whole: { length memory ≡ N },
     ghost fits: { count ≤ N },
 }

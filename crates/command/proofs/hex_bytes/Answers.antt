@@ -1,4 +1,5 @@
-use Rattle.std.proofs.Common.{vec_items, ap, ◌∙◌, arith, ltb-false, ltb-true}
+use Rattle.std.proofs.Common.{◌≡◌, ◌==◌, false, length, vec_items, sym, ap, ◌∙◌, arith, ltb-false}
+use Rattle.std.proofs.lemmas.Bool.Decides.{nat_tests}
 use Rattle.std.specs.Option.{option_map}
 use Rattle.std.specs.Bool.{then_some}
 use Rattle.command.proofs.Steps.{unblanked_front, hex_begins, hex_wrong, hex_more, hex_last}
@@ -20,6 +21,12 @@ loop-left-preserved c = (
   rw c.skip_blanks-left-in-len2-up.ensures.value (unblanked_front _),
 )
 
-pub returns : goal.returns
-returns c =
-    record { value = ap (option_map vec_items) (c.then_some.ensures ∙ ap (λ b. then_some b c.loop-left.bytes) c.is_empty.ensures) ∙ hex_last c.loop-left.bytes c.loop-left.left.now (omega (arith, ltb-true)) c.loop-left.invariant.1 ∙ c.loop-left.invariant.0 }
+pub returns-in-empty : goal.returns-in-empty
+returns-in-empty c =
+    let none : length c.loop-left.left.now ≡ 0 = omega (arith, c.in-empty.len_below) in
+    record { value = ap (λ n. option_map vec_items (then_some (n == 0) c.loop-left.bytes)) (sym none) ∙ hex_last c.loop-left.bytes c.loop-left.left.now (omega (arith, c.in_default.len_below)) c.loop-left.invariant.1 ∙ c.loop-left.invariant.0 }
+
+pub returns-in_default-left : goal.returns-in_default-left
+returns-in_default-left c =
+    let some : (length c.loop-left.left.now == 0) ≡ false = grind (arith, nat_tests, c.in_default-left.len_at_least) in
+    record { value = ap (λ b. option_map vec_items (then_some b c.loop-left.bytes)) (sym some) ∙ hex_last c.loop-left.bytes c.loop-left.left.now (omega (arith, c.in_default.len_below)) c.loop-left.invariant.1 ∙ c.loop-left.invariant.0 }

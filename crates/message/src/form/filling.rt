@@ -29,10 +29,12 @@ impl Form {
         ensures value { option_map message_text result ≡ filled (value_in values.now) (text self.now) }
         ensures tree { (t : Tree) → form_of (text self.now) ≡ Some t → MatchOption result (fill_tree (value_in values.now) t ≡ None) (λ m. (u : Tree) × (fill_tree (value_in values.now) t ≡ Some u) × (message_of (message_text m) ≡ Some u)) }
     {
-        let mut bytes = Row::new(0);
-        for byte in self.bytes() {
-            bytes.push(replacement(*byte, values)?).unwrap();
+        // In place: a variable and its value take one byte each.
+        let Row { mut memory, count } = self.bytes;
+        for i in 0..count {
+            memory[i] = replacement(memory[i], values)?;
         }
+        let bytes = Row { memory, count };
         let form = Form { bytes };
         Some(Message { form })
     }

@@ -9,6 +9,9 @@ use crate::reader::form_length;
 use crate::row::Row;
 use crate::stop::Stop;
 
+// How many bytes a form may have.
+const LONGEST_FORM: usize = 24;
+
 impl Form {
     // The form that all the bytes are; refused where they are not one form of 1 to 24 bytes.
     #[tactic(auto, using(crate::proofs::OneReading::one_reading, crate::proofs::OneValue::one_form))]
@@ -19,9 +22,14 @@ impl Form {
         ensures one_value { OneForm }
         ensures equal { (a b : Form) → ⟦<Form as PartialEq>⟧.eq a b ≡ bytes_eq (text a) (text b) }
     {
-        let row = Row::from_slice(0, bytes).map_err(|_| Stop::NotOneForm)?;
+        if bytes.len() > LONGEST_FORM {
+            return Err(Stop::NotOneForm);
+        }
         match form_length(bytes) {
-            Some(n) if n == bytes.len() => Ok(Form { bytes: row }),
+            Some(n) if n == bytes.len() => {
+                let bytes = Row::from_slice(0, bytes).unwrap();
+                Ok(Form { bytes })
+            }
             _ => Err(Stop::NotOneForm),
         }
     }

@@ -22,11 +22,15 @@ impl<T: Copy, const N: usize> Row<T, N> {
     pub fn from_slice(filler: T, items: &[T]) -> Result<Row<T, N>, Full>
         ensures cases { MatchResult result (λ row. (length items.now ≤ N) × (items_in row ≡ items.now) × (rest_of row ≡ replicate (N - length items.now) filler)) (λ _. N < length items.now) }
     {
-        let mut row = Row::new(filler);
-        for item in items {
-            row.push(*item)?;
+        if items.len() > N {
+            return Err(Full);
         }
-        Ok(row)
+        let mut memory = [filler; N];
+        memory[..items.len()].copy_from_slice(items);
+        Ok(Row {
+            memory,
+            count: items.len(),
+        })
     }
 
     // The items in their order.

@@ -1,13 +1,17 @@
-use Rattle.std.proofs.Common.{◌≡◌, ◌+◌, ◌-◌, [], ◌∷◌, ◌++◌, take, drop, replicate, sym, ap, ◌∙◌, arith}
-use Rattle.std.proofs.lemmas.List.{drop-replicate, take_more}
+use Rattle.std.proofs.Common.{◌++◌, length, take, drop, replicate, ap, ◌∙◌, arith}
+use Rattle.std.proofs.lemmas.List.{drop-replicate}
+use Rattle.std.proofs.Math.Seq.{take-append_seam, drop-append_seam}
 use Rattle.message.proofs.row.Row.from_slice.Goals as goal
 
-pub loop-item-preserved : goal.loop-item-preserved
-loop-item-preserved g c =
+pub returns : goal.returns
+returns g c =
     let items = c.args.items.now in
-    let i = c.loop-item.item-index in
-    let item = c.item-item.result in
-    let less : (g.row.N - i) - 1 ≡ g.row.N - (i + 1) = omega arith in (
-      c.in_ok-push.ensures.pushed.1 ∙ ap (λ l. l ++ item ∷ []) c.loop-item.invariant.0 ∙ ap (λ x. take i items ++ x ∷ []) c.item-item.is ∙ sym (take_more items i item c.loop-item-test.true),
-      c.in_ok-push.ensures.rest ∙ ap (drop 1) c.loop-item.invariant.1 ∙ drop-replicate 1 (g.row.N - i) c.args.filler ∙ ap (λ n. replicate n c.args.filler) less,
-    )
+    let rest = drop (length items) (replicate g.row.N c.args.filler) in
+    let copied = ap (λ front. front ++ rest) c.copy_from_slice.ensures.after in
+    record {
+      cases = (
+        omega (arith, c.if-items.false),
+        ap (take (length items)) copied ∙ take-append_seam items rest,
+        ap (drop (length items)) copied ∙ drop-append_seam items rest ∙ drop-replicate (length items) g.row.N c.args.filler,
+      );
+    }
