@@ -18,7 +18,11 @@ impl Part for Declaration {
         let Declaration { atom, label } = *self;
         listing.push_str("atom ")?;
         listing.push_bytes(label.bytes())?;
-        write!(listing, " {} {atom:02X}\n", atom_word(atom))
+        listing.push_str(" ")?;
+        listing.push_str(atom_word(atom))?;
+        listing.push_str(" ")?;
+        listing.push_hex(atom)?;
+        listing.push_str("\n")
     }
 }
 

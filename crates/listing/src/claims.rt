@@ -20,11 +20,13 @@ impl Listing<'_> {
             }
             Claim::SessionSecret { session, variable } => {
                 self.put_byte(*variable)?;
-                write!(self, " of session {session} stays secret")
+                self.push_between(" of session ", *session as usize, " stays secret")
             }
-            Claim::Matched { mark } => write!(self, "each end with mark {mark} has a begin"),
+            Claim::Matched { mark } => {
+                self.push_between("each end with mark ", *mark as usize, " has a begin")
+            }
             Claim::MatchedOnce { mark } => {
-                write!(self, "no more ends with mark {mark} than begins")
+                self.push_between("no more ends with mark ", *mark as usize, " than begins")
             }
         }
     }
@@ -35,7 +37,7 @@ impl Part for Claim {
     ghost shown = { λ ds n c. claim_line ds n (claim_of c) };
 
     fn put(&self, listing: &mut Listing<'_>, number: usize) -> Result<(), AllocError> {
-        write!(listing, "claim {number}: ")?;
+        listing.push_between("claim ", number, ": ")?;
         listing.put_claim(self)?;
         listing.push_str("\n")
     }

@@ -34,7 +34,11 @@ impl Listing<'_> {
     {
         match Symbol::from(byte) {
             Symbol::Atom(_) => self.push_bytes(label_of(self.atoms, byte)),
-            Symbol::Variable(kind) => write!(self, "?{}{}", variable_word(kind), byte % 16),
+            Symbol::Variable(kind) => {
+                self.push_str("?")?;
+                self.push_str(variable_word(kind))?;
+                self.push_decimal((byte % 16) as usize)
+            }
             Symbol::Join | Symbol::Lock | Symbol::Unused => Ok(()),
         }
     }

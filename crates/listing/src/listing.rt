@@ -1,11 +1,11 @@
 // A listing that is being written.
-ghost use Rattle.std.specs.Prelude.{IfSome};
-ghost use Rattle.listing.specs.Adds.{Added, Adds};
+ghost use Rattle.std.specs.Prelude.{◌++◌, decimal};
+ghost use Rattle.listing.specs.Adds.{Adds};
+ghost use Rattle.listing.specs.Words.{hex};
 
+use crate::words::hex_digit;
 use exchange::declaration::Declaration;
 use std::alloc::AllocError;
-use std::fmt;
-use std::fmt::{Display, Write};
 
 // The text so far, and the declared atoms, which are shown by their labels.
 #[derive(Drop)]
@@ -29,20 +29,35 @@ impl Listing<'_> {
         self.push_bytes(words.as_bytes())
     }
 
-    // What `write!` calls. The words go straight to the text, so that only the text ever asks for memory; what is shown here
-    // has no other error than want of it.
-    pub(crate) fn write_fmt<D: Display + Drop>(&mut self, words: D) -> Result<(), AllocError>
-        ensures adds { IfSome (D.output words) (Adds result self.old self.new) }
+    // A number in decimal. Digits go straight to the text: `write!` takes several times as long for a number.
+    pub(crate) fn push_decimal(&mut self, number: usize) -> Result<(), AllocError>
+        ensures adds { Adds result self.old self.new (decimal number) }
     {
-        Write::write(self, words).map_err(|_| AllocError)
+        if number >= 10 {
+            self.push_decimal(number / 10)?;
+        }
+        self.text.push(b'0' + (number % 10) as u8)?;
+        Ok(())
     }
-}
 
-// What `fmt` writes is added to the text.
-impl fmt::Write for Listing<'_> {
-    ghost write_str_gives = { λ before words after. Added before after words };
+    // A number between two words.
+    pub(crate) fn push_between(
+        &mut self,
+        before: &str,
+        number: usize,
+        after: &str,
+    ) -> Result<(), AllocError>
+        ensures adds { Adds result self.old self.new (before.now ++ (decimal number ++ after.now)) }
+    {
+        self.push_str(before)?;
+        self.push_decimal(number)?;
+        self.push_str(after)
+    }
 
-    fn write_str(&mut self, words: &str) -> fmt::Result {
-        self.push_str(words).map_err(|_| fmt::Error)
+    // A byte in two hexadecimal digits.
+    pub(crate) fn push_hex(&mut self, byte: u8) -> Result<(), AllocError>
+        ensures adds { Adds result self.old self.new (hex byte) }
+    {
+        self.push_bytes(&[hex_digit(byte / 16), hex_digit(byte % 16)])
     }
 }

@@ -32,7 +32,8 @@ impl Part for Session {
     ghost shown = { λ ds n s. session_line ds n (session_of s) };
 
     fn put(&self, listing: &mut Listing<'_>, number: usize) -> Result<(), AllocError> {
-        write!(listing, "session {number} plays role {}", self.role())?;
+        listing.push_between("session ", number, " plays role ")?;
+        listing.push_decimal(self.role() as usize)?;
         listing.put_all(self.bindings())?;
         listing.push_str("\n")
     }

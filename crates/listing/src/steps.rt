@@ -29,11 +29,11 @@ impl Listing<'_> {
                 self.put_form(form)
             }
             Step::Begin { mark, form } => {
-                write!(self, "begin {mark} ")?;
+                self.push_between("begin ", *mark as usize, " ")?;
                 self.put_form(form)
             }
             Step::End { mark, form } => {
-                write!(self, "end {mark} ")?;
+                self.push_between("end ", *mark as usize, " ")?;
                 self.put_form(form)
             }
         }
@@ -52,7 +52,8 @@ impl Part for Step {
     ghost shown = { λ ds n s. step_line ds n (step_of s) };
 
     fn put(&self, listing: &mut Listing<'_>, number: usize) -> Result<(), AllocError> {
-        write!(listing, "{number} ")?;
+        listing.push_decimal(number)?;
+        listing.push_str(" ")?;
         listing.put_step(self)?;
         listing.push_str("\n")
     }
@@ -63,7 +64,7 @@ impl Part for Role {
     ghost shown = { λ ds n role. role_lines ds n (role_of role) };
 
     fn put(&self, listing: &mut Listing<'_>, number: usize) -> Result<(), AllocError> {
-        write!(listing, "role {number}\n")?;
+        listing.push_between("role ", number, "\n")?;
         listing.put_all(self.steps())
     }
 }

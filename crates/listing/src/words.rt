@@ -1,8 +1,8 @@
-// The words for kinds of atoms.
-ghost use Rattle.std.specs.Prelude.{◌≡◌};
+// The words for kinds of atoms, and the digits of bytes.
+ghost use Rattle.std.specs.Prelude.{◌≡◌, ◌<◌};
 ghost use Rattle.message.specs.Bytes.{symbol};
 ghost use Rattle.listing.specs.Lines.{kind_text};
-ghost use Rattle.listing.specs.Words.{kind_word, variable_word};
+ghost use Rattle.listing.specs.Words.{kind_word, variable_word, hex_digit};
 
 use message::kind::{Kind, Symbol};
 
@@ -37,5 +37,17 @@ pub(crate) fn variable_word(kind: Kind) -> &'static str
         Kind::SharedKey => "shared",
         Kind::PairKey => "pair",
         _ => kind_word(kind),
+    }
+}
+
+// A hexadecimal digit, in capitals.
+pub(crate) fn hex_digit(number: u8) -> u8
+    requires digit { number < 16 }
+    ensures value { result ≡ hex_digit number }
+{
+    if number < 10 {
+        b'0' + number
+    } else {
+        b'A' - 10 + number
     }
 }

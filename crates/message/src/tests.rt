@@ -81,6 +81,15 @@ fn keeps_a_row(rt: HostRuntime) -> Result<(), Fail> {
 }
 
 #[test]
+fn keeps_its_filler_behind_the_items(rt: HostRuntime) -> Result<(), Fail> {
+    let mut row: Row<u8, 3> = Row::new(5);
+    row.push(7)?;
+    assert!(rt; same_bytes(row.memory(), &[7, 5, 5]));
+    assert!(rt; same_bytes(row.as_slice(), &[7]));
+    Ok(())
+}
+
+#[test]
 fn notes_variables_once(rt: HostRuntime) -> Result<(), Fail> {
     let mut row: Row<u8, 1> = Row::new(0);
     row.note(0x40)?;

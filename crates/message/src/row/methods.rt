@@ -41,6 +41,13 @@ impl<T: Copy, const N: usize> Row<T, N> {
         &self.memory[..self.count]
     }
 
+    // The whole memory: the items, and then what fills the rest.
+    pub fn memory(&self) -> &[T]
+        ensures value { result.now ≡ items_in self.now ++ rest_of self.now }
+    {
+        self.memory.as_slice()
+    }
+
     // One more item at the end; refused, with nothing changed, where there are N.
     pub fn push(&mut self, item: T) -> Result<(), Full>
         ensures pushed { MatchResult result (λ _. (length (items_in self.old) < N) × (items_in self.new ≡ items_in self.old ++ item ∷ [])) (λ _. (length (items_in self.old) ≡ N) × (self.new ≡ self.old)) }

@@ -10,5 +10,5 @@ use Rattle.listing.proofs.steps.RolePart.put.Goals as goal
 
 pub returns : goal.returns
 returns c =
-    let lines = row step_of _ c.steps.ensures.value (step_line (declared_in c.write.new.self)) in
-    record { adds = simp append_assoc at (then_adds c.put_all.result c.put_all.new.self (codes "role " ++ (decimal c.args.number ++ newline)) (λ ds. numbered (step_line ds) 0 (role_of c.args.self.now)) c.in_ok-write.ensures.adds (rw lines at c.put_all.ensures.adds)) }
+    let lines = row step_of _ c.steps.ensures.value (step_line (declared_in c.push_between.new.self)) in
+    record { adds = simp append_assoc at (then_adds c.put_all.result c.put_all.new.self (codes "role " ++ (decimal c.args.number ++ newline)) (λ ds. numbered (step_line ds) 0 (role_of c.args.self.now)) c.in_ok-push_between.ensures.adds (rw lines at c.put_all.ensures.adds)) }
